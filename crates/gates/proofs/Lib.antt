@@ -1,0 +1,10 @@
+pub mod States
+pub mod Members
+pub mod Masks
+pub mod ControlSets
+pub mod ToffoliLaws
+pub mod FredkinLaws
+pub mod Runs
+pub mod Moving
+pub mod CascadesTheorem
+pub mod Acting
