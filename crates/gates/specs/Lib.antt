@@ -5,3 +5,4 @@ pub mod Toffoli
 pub mod Fredkin
 pub mod Cascades
 pub mod Examples
+pub mod Refusals

@@ -13,6 +13,13 @@ pub enum Sign {
     Negative,
 }
 
+// Why a gate is refused.
+#[derive(Clone, Copy, PartialEq, Eq, Debug)]
+pub enum GateRefusal {
+    // It is not well formed for the lines of its place.
+    NotWellFormed,
+}
+
 // A gate: the lines `a` and `b`, and the lines that are positive and negative controls.
 // What `a` and `b` mean is the kind's affair; a kind that does not use one has 0 there.
 #[derive(Clone, Copy, PartialEq, Eq, PartialOrd, Ord, Hash, Debug, Default)]

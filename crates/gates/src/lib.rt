@@ -4,6 +4,7 @@ mod controls;
 mod fredkin;
 mod gate;
 mod kind;
+mod refusal;
 pub mod sets;
 mod toffoli;
 
@@ -14,6 +15,7 @@ pub use cascade::worked_examples;
 pub use fredkin::Fredkin;
 pub use fredkin::FredkinKind;
 pub use gate::Gate;
+pub use gate::GateRefusal;
 pub use gate::LineSet;
 pub use gate::Sign;
 pub use gate::WIDTH;
