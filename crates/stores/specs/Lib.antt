@@ -1,0 +1,5 @@
+pub mod Stores
+pub mod Memory
+pub mod MemoryFacts
+pub mod Mounts
+pub mod Laws

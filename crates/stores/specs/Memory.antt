@@ -1,0 +1,29 @@
+-- Stores in memory that the caller lends: what the records mean.
+use mathlib.Core.Bool.{cond, _&&_}
+use mathlib.Core.List.{List, [], _++_}
+use Prim.Native.Nat.{ℕ, _-_, min}
+use lib.Dec.{leb}
+use lib.ListN.{length, take, drop}
+use Rattle.gates.specs.declared.gate.Gate.{Gate}
+use Rattle.gates.specs.Lines.{width}
+use Rattle.stores.specs.Stores.{StoreMeaning, most}
+
+-- a store of these gates in memory of so many records: it can hold as many gates as there are records, 4,096 at the most, and no window is in it
+abbrev pub in-memory : ℕ → ℕ → List Gate → StoreMeaning
+in-memory lines records gates = record { lines = lines; capacity = min records most; gates = gates; outside = [] }
+
+-- the plain store: its gates in order at the front of the records
+abbrev pub plain : ℕ → List Gate → ℕ → StoreMeaning
+plain lines records count = in-memory lines (length records) (take count records)
+
+-- the gates of a gap store: the first ones at the front of the records, the others at their back
+abbrev pub around-gap : List Gate → ℕ → ℕ → List Gate
+around-gap records front back = take front records ++ drop (length records - back) records
+
+-- the gap store: free records stand between the first gates and the others
+abbrev pub gap : ℕ → List Gate → ℕ → ℕ → StoreMeaning
+gap lines records front back = in-memory lines (length records) (around-gap records front back)
+
+-- the line count of a store that is made: the one asked for, or 1 where that is not 1 to 32
+abbrev pub made-lines : ℕ → ℕ
+made-lines lines = cond (leb 1 lines && leb lines width) lines 1

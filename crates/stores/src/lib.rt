@@ -1,0 +1,10 @@
+// Stores of gates: lists in memory that the caller lends, and views of other stores.
+mod plain;
+mod refusal;
+mod store;
+
+pub use plain::MOST;
+pub use plain::PlainStore;
+pub use plain::PlainStoreStore;
+pub use refusal::StoreRefusal;
+pub use store::Store;
