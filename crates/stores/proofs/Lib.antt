@@ -1,3 +1,4 @@
 pub mod Shifts
 pub mod Outcomes
 pub mod PlainEdits
+pub mod GapEdits

@@ -1,6 +1,6 @@
 -- Outcomes of a store's calls where nothing stands in their way, and lists after an edit.
 use mathlib.Core.Path.{_≡_, refl, sym, ap, ap₂, _∙_}
-use mathlib.Core.Bool.{Bool, true, cond}
+use mathlib.Core.Bool.{Bool, true, false, cond}
 use mathlib.Core.List.{List, [], _∷_, _++_}
 use Prim.Native.Nat.{ℕ, zero, suc, _+_, _-_, _<_, _≤_}
 use native.Mathlib.Omega.{arith}
@@ -9,7 +9,7 @@ use lib.Dec.{ltb, leb}
 use Rattle.std.specs.Holes.{inserted, removed}
 use Rattle.std.specs.declared.result.Result.{Result}
 use Rattle.std.specs.declared.result.Result.the-variants.{Ok, Err}
-use Rattle.std.proofs.shelf.Tests.{lt-ltb, le-leb, le-ltb, lt-leb}
+use Rattle.std.proofs.shelf.Tests.{ltb-true, lt-ltb, le-leb, le-ltb, lt-leb}
 use Rattle.gates.specs.declared.gate.Gate.{Gate}
 use Rattle.gates.specs.declared.gate.GateRefusal.the-variants.{NotWellFormed}
 use Rattle.gates.specs.Kinds.{KindMeaning, Formed}
@@ -26,6 +26,14 @@ module _ (m : StoreMeaning) (place : ℕ) where
 
   pub remove-ok : place < length (m .gates) → remove-outcome m place ≡ Ok (at m place, with-gates m (removed (m .gates) place))
   remove-ok lt = provided-true _ _ _ (lt-ltb place (length (m .gates)) lt)
+
+-- an answer to read tells that the place is there, and which gate stands at it
+pub read-told : (m : StoreMeaning) (place : ℕ) (g : Gate) → _≡_ {A = Result Gate StoreRefusal} (Ok g) (read-outcome m place) → (place < length (m .gates)) × (g ≡ at m place)
+read-told m place g told = by (ltb place (length (m .gates))) refl told
+  where
+    by : (b : Bool) → ltb place (length (m .gates)) ≡ b → _≡_ {A = Result Gate StoreRefusal} (Ok g) (cond b (Ok (at m place)) (Err NoSuchPlace)) → (place < length (m .gates)) × (g ≡ at m place)
+    by true e same = (ltb-true place (length (m .gates)) e, cc)
+    by false e same = absurd (let z : _≡_ {A = ℕ} 0 1 = cc in omega arith)
 
 module _ (k : KindMeaning) (m : StoreMeaning) (place : ℕ) (g : Gate) (formed : Formed k (m .lines) g) where
   pub overwrite-ok : place < length (m .gates) → overwrite-outcome k m place g ≡ Ok (tt, with-gates m (set (m .gates) place g))

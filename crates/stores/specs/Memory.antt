@@ -1,8 +1,9 @@
 -- Stores in memory that the caller lends: what the records mean.
+use mathlib.Core.Path.{_≡_}
 use mathlib.Core.Bool.{cond, _&&_}
 use mathlib.Core.List.{List, [], _++_}
-use Prim.Native.Nat.{ℕ, _-_, min}
-use lib.Dec.{leb}
+use Prim.Native.Nat.{ℕ, _+_, _-_, min}
+use lib.Dec.{leb, ltb}
 use lib.ListN.{length, take, drop}
 use Rattle.gates.specs.declared.gate.Gate.{Gate}
 use Rattle.gates.specs.Lines.{width}
@@ -20,9 +21,20 @@ plain lines records count = in-memory lines (length records) (take count records
 abbrev pub around-gap : List Gate → ℕ → ℕ → List Gate
 around-gap records front back = take front records ++ drop (length records - back) records
 
+-- the record that holds the gate at a place, of n records
+abbrev pub record-of : ℕ → ℕ → ℕ → ℕ → ℕ
+record-of n front back place = cond (ltb place front) place (place + (n - (front + back)))
+
 -- the gap store: free records stand between the first gates and the others
 abbrev pub gap : ℕ → List Gate → ℕ → ℕ → StoreMeaning
 gap lines records front back = in-memory lines (length records) (around-gap records front back)
+
+-- the same gap store with its gap elsewhere: lines, records, gates before the gap and gates behind it, before and after
+pub record Gap-moved (lines : ℕ) (records : List Gate) (front back : ℕ) (lines′ : ℕ) (records′ : List Gate) (front′ back′ : ℕ) : Type 0 where
+  pub same : gap lines′ records′ front′ back′ ≡ gap lines records front back
+  pub sum : front′ + back′ ≡ front + back
+  pub long : length records′ ≡ length records
+  pub on : lines′ ≡ lines
 
 -- the line count of a store that is made: the one asked for, or 1 where that is not 1 to 32
 abbrev pub made-lines : ℕ → ℕ

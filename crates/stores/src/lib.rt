@@ -1,8 +1,11 @@
 // Stores of gates: lists in memory that the caller lends, and views of other stores.
+mod gap;
 mod plain;
 mod refusal;
 mod store;
 
+pub use gap::GapStore;
+pub use gap::GapStoreStore;
 pub use plain::MOST;
 pub use plain::PlainStore;
 pub use plain::PlainStoreStore;

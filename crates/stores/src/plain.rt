@@ -17,6 +17,7 @@ ghost use Rattle.stores.specs.Stores.{after, answer, insert-outcome, overwrite
 pub const MOST: usize = 4096;
 
 // A list of gates at the front of the lent records; the other records are free.
+#[derive(Drop)]
 pub struct PlainStore<'a, K> {
     records: &'a mut [Gate],
     count: usize,
