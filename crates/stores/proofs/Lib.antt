@@ -2,3 +2,4 @@ pub mod Shifts
 pub mod Outcomes
 pub mod PlainEdits
 pub mod GapEdits
+pub mod Backward

@@ -2,6 +2,7 @@
 mod gap;
 mod plain;
 mod refusal;
+mod reversed;
 mod store;
 
 pub use gap::GapStore;
@@ -10,4 +11,6 @@ pub use plain::MOST;
 pub use plain::PlainStore;
 pub use plain::PlainStoreStore;
 pub use refusal::StoreRefusal;
+pub use reversed::Reversed;
+pub use reversed::ReversedStore;
 pub use store::Store;
