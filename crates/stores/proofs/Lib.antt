@@ -3,3 +3,4 @@ pub mod Outcomes
 pub mod PlainEdits
 pub mod GapEdits
 pub mod Backward
+pub mod Rearranging

@@ -9,7 +9,7 @@ use Rattle.gates.specs.declared.gate.Gate.{Gate}
 use Rattle.gates.specs.Kinds.{KindMeaning}
 use Rattle.gates.specs.Cascades.{backward}
 use Rattle.stores.specs.Stores.{StoreMeaning, Bounded, with-gates}
-use Rattle.stores.specs.Mounts.{reversed, windowed, window, start-in, size-in}
+use Rattle.stores.specs.Mounts.{reversed, shown-gate, renamed-view, windowed, window, start-in, size-in}
 
 -- another list of the same length fits as well
 pub same-bounded : (m : StoreMeaning) (gates : List Gate) → length gates ≡ length (m .gates) → Bounded m → Bounded (with-gates m gates)
@@ -23,6 +23,10 @@ backward-long k gates = length-map (reverse gates) (k .inverse) ∙ length-rever
 -- a reversed store
 pub reversed-bounded : (k : KindMeaning) (m : StoreMeaning) → Bounded m → Bounded (reversed k m)
 reversed-bounded k m b = same-bounded m (backward k (m .gates)) (backward-long k (m .gates)) b
+
+-- a renamed store
+pub renamed-bounded : (k : KindMeaning) (n : ℕ) (table : List ℕ) (m : StoreMeaning) → Bounded m → Bounded (renamed-view k n table m)
+renamed-bounded k n table m b = same-bounded m (map (shown-gate k n table (m .lines)) (m .gates)) (length-map (m .gates) (shown-gate k n table (m .lines))) b
 
 -- a window
 pub window-bounded : (start size : ℕ) (m : StoreMeaning) → Bounded m → Bounded (window start size m)

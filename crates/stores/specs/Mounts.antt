@@ -70,6 +70,14 @@ pub record Rearranged (n : ℕ) (table back : List ℕ) : Type 0 where
   pub undone : (i : ℕ) → i < n → getD back (getD table i 0) 0 ≡ i
   pub redone : (i : ℕ) → i < n → getD table (getD back i 0) 0 ≡ i
 
+-- a gate through the first n entries of a table, for a store of that many lines; for another store the gate itself
+abbrev pub shown-gate : KindMeaning → ℕ → List ℕ → ℕ → Gate → Gate
+shown-gate k n table lines g = cond (eqb n lines) (k .renamed (take n table) g) g
+
+-- each gate of the store so shown
+abbrev pub renamed-view : KindMeaning → ℕ → List ℕ → StoreMeaning → StoreMeaning
+renamed-view k n table m = with-gates m (map (shown-gate k n table (m .lines)) (m .gates))
+
 -- checking a line table for a store: 1 where it is no rearrangement of the store's lines
 abbrev pub table-outcome : StoreMeaning → List ℕ → Result (Unit {0}) StoreRefusal
 table-outcome m table = provided (rearranges (m .lines) table) Lines (Ok tt)
