@@ -4,3 +4,4 @@ pub mod PlainEdits
 pub mod GapEdits
 pub mod Backward
 pub mod Rearranging
+pub mod Windows

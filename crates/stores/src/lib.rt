@@ -6,6 +6,7 @@ mod refusal;
 mod renamed;
 mod reversed;
 mod store;
+mod window;
 
 pub use gap::GapStore;
 pub use gap::GapStoreStore;
@@ -21,3 +22,6 @@ pub use renamed::check_table;
 pub use reversed::Reversed;
 pub use reversed::ReversedStore;
 pub use store::Store;
+pub use window::Window;
+pub use window::WindowStore;
+pub use window::check_window;
