@@ -5,3 +5,4 @@ pub mod GapEdits
 pub mod Backward
 pub mod Rearranging
 pub mod Windows
+pub mod StoresTheorem

@@ -1,5 +1,6 @@
 // Stores of gates: lists in memory that the caller lends, and views of other stores.
 mod gap;
+mod laws;
 mod plain;
 mod rearrangement;
 mod refusal;
@@ -10,12 +11,17 @@ mod window;
 
 pub use gap::GapStore;
 pub use gap::GapStoreStore;
+pub use laws::check_lines;
+pub use laws::store_laws;
 pub use plain::MOST;
 pub use plain::PlainStore;
 pub use plain::PlainStoreStore;
 pub use rearrangement::Rearrangement;
 pub use rearrangement::is_rearrangement;
 pub use refusal::StoreRefusal;
+pub use refusal::StoreRefusalDebug;
+pub use refusal::StoreRefusalEq;
+pub use refusal::StoreRefusalPartialEq;
 pub use renamed::Renamed;
 pub use renamed::RenamedStore;
 pub use renamed::check_table;
