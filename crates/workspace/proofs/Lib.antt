@@ -1,3 +1,4 @@
+pub mod Fronts
 pub mod Placing
 pub mod Extending
 pub mod Replacing

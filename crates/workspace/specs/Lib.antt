@@ -1,3 +1,6 @@
 pub mod Templates
 pub mod Turns
 pub mod TurnTheorem
+pub mod TemplateTests
+pub mod Refusals
+pub mod Proposals
