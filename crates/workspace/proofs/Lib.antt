@@ -2,3 +2,6 @@ pub mod Fronts
 pub mod Placing
 pub mod Extending
 pub mod Replacing
+pub mod GroupSets
+pub mod Deciding
+pub mod Stepping

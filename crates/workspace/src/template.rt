@@ -8,6 +8,9 @@ ghost use Rattle.workspace.specs.Proposals.{proposed, template-of};
 // A set of positions in a template, position i at the bit of weight 2^i.
 pub type PositionSet = u32;
 
+// How many lines a template has at most.
+pub const MOST_LINES: u8 = 4;
+
 // How many gates a template has at most.
 pub const MOST_GATES: usize = 8;
 
@@ -46,8 +49,9 @@ fn padded<T: Copy, const N: usize>(items: &[T], blank: T) -> [T; N]
 
 impl Template {
     // What is proposed, held.
-    fn holding(proposal: &Proposal) -> Template
-        requires { ⌜ length (now (now proposal .gates)) ≤ 8 ⌝ ∗ ⌜ length (now (now proposal .groups)) ≤ 3 ⌝ }
+    pub(super) fn holding(proposal: &Proposal) -> Template
+        requires few_gates { ⌜ length (now (now proposal .gates)) ≤ 8 ⌝ }
+        requires few_groups { ⌜ length (now (now proposal .groups)) ≤ 3 ⌝ }
         ensures { λ r. ⌜ template-of r ≡ proposed (now (proposal .entry)) ⌝ }
     {
         let blank = Gate {
