@@ -5,3 +5,4 @@ pub mod Replacing
 pub mod GroupSets
 pub mod Deciding
 pub mod Stepping
+pub mod Singling

@@ -4,3 +4,5 @@ pub mod TurnTheorem
 pub mod TemplateTests
 pub mod Refusals
 pub mod Proposals
+pub mod Policy
+pub mod Policies
