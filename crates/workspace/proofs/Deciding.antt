@@ -28,10 +28,10 @@ use Rattle.workspace.specs.Templates.{TemplateMeaning, size, in-selected, outs
 use Rattle.workspace.specs.TemplateTests.{all-pass, agree, restores-test, lines-test, size-test, gates-test, group-test, groups-test, whole-test, selections-test, tested, template-test, Breaks, Answers-rules, RuleLaws}
 use Rattle.workspace.proofs.GroupSets.{decides-group}
 
-decides-leb : (a b : ℕ) → Decides (leb a b) (a ≤ b)
+pub decides-leb : (a b : ℕ) → Decides (leb a b) (a ≤ b)
 decides-leb a b = (leb-true a b, le-leb a b)
 
-decides-true : (b : Bool) → Decides b (b ≡ true)
+pub decides-true : (b : Bool) → Decides b (b ≡ true)
 decides-true b = ((λ h. h), (λ h. h))
 
 decides-lines : (t : TemplateMeaning) → Decides (lines-test t) (Lines-rule t)

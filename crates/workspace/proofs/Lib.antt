@@ -6,3 +6,4 @@ pub mod GroupSets
 pub mod Deciding
 pub mod Stepping
 pub mod Singling
+pub mod DecidingTurns

@@ -6,3 +6,4 @@ pub mod Refusals
 pub mod Proposals
 pub mod Policy
 pub mod Policies
+pub mod TurnTests
