@@ -7,3 +7,4 @@ pub mod Proposals
 pub mod Policy
 pub mod Policies
 pub mod TurnTests
+pub mod Examples

@@ -1,6 +1,7 @@
 // Templates on a shelf, and the replacement of what occurs of them in a cascade.
 mod check;
 mod earliest;
+mod examples;
 mod largest;
 mod numbers;
 mod policies;
@@ -16,6 +17,7 @@ pub use check::check_proposal;
 pub use check::rule_laws;
 pub use earliest::Earliest;
 pub use earliest::EarliestPolicy;
+pub use examples::worked_examples;
 pub use largest::Largest;
 pub use largest::LargestPolicy;
 pub use policies::policy_laws;
