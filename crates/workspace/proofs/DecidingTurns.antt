@@ -1,8 +1,8 @@
 -- The test of a turn decides.
 use mathlib.Core.Path.{_≡_, refl, sym, ap, _∙_}
-use mathlib.Core.Bool.{Bool, true, false, not, _&&_, _||_}
+use mathlib.Core.Bool.{Bool, true, false, not}
 use mathlib.Core.List.{List, [], _∷_}
-use Prim.Native.Nat.{ℕ, zero, suc, _^_, _<_, _≤_}
+use Prim.Native.Nat.{ℕ, zero, suc, _^_, _<_}
 use native.Mathlib.Omega.{arith}
 use lib.Dec.{eqb, leb, ltb}
 use lib.ListN.{length, getD}
@@ -10,16 +10,16 @@ use Rattle.std.specs.Options.{isSome}
 use Rattle.std.specs.Orderings.{Decides}
 use Rattle.std.specs.shelf.Lists.{All}
 use Rattle.std.proofs.shelf.Lists.{getD-default}
-use Rattle.std.proofs.shelf.Tests.{leb-true, le-leb, and-parts, and-from, both-ways, not-true, not-from-false}
+use Rattle.std.proofs.shelf.Tests.{leb-true, le-leb, and-parts, and-from, not-true, not-from-false}
 use Rattle.std.proofs.shelf.Ways.{decides-and, decides-by-and, decides-by-or, decides-ltb, decides-eqb, decides-like, not-from-decides}
 use Rattle.gates.specs.Lines.{width, Table}
 use Rattle.gates.specs.Kinds.{KindMeaning}
 use Rattle.gates.specs.Cascades.{Flippable}
-use Rattle.workspace.specs.Templates.{TemplateMeaning, size}
+use Rattle.workspace.specs.Templates.{size}
 use Rattle.workspace.specs.TemplateTests.{all-pass}
-use Rattle.workspace.specs.Turns.{Placed, Turn, Is-turn, directed, placed}
+use Rattle.workspace.specs.Turns.{Placed, directed, placed}
 use Rattle.workspace.specs.TurnTests.{has-number, distinct, table-test, turn-test, Turns-decided}
-use Rattle.workspace.proofs.Deciding.{decides-leb, decides-true}
+use Rattle.workspace.proofs.Deciding.{decides-true}
 
 -- a place of the list has the number
 abbrev At-some : List ℕ → ℕ → Type 0

@@ -1,8 +1,8 @@
 -- The turned template with its added controls, and the replacement of a part of a cascade by it.
-use mathlib.Core.Path.{_≡_, refl, sym, ap, _∙_, fun-ext, subst}
-use mathlib.Core.Bool.{Bool, true, false, not, cond, _&&_, _||_}
-use mathlib.Core.List.{List, [], _∷_, _++_, map}
-use Prim.Native.Nat.{ℕ, suc, _<_, _≤_, _+_}
+use mathlib.Core.Path.{_≡_, refl, sym, ap, _∙_, fun-ext}
+use mathlib.Core.Bool.{Bool, true, false, not, _&&_, _||_}
+use mathlib.Core.List.{List, [], _∷_, _++_}
+use Prim.Native.Nat.{ℕ, suc, _≤_, _+_}
 use native.Mathlib.Omega.{arith}
 use lib.ListN.{take, drop, length}
 use Rattle.std.specs.shelf.Lists.{All}
@@ -16,10 +16,10 @@ use Rattle.gates.proofs.Runs.{run-append, split, backward-formed, renamed-idle}
 use Rattle.gates.proofs.Moving.{moving, all-picked, length-picked}
 use Rattle.workspace.specs.Templates.{TemplateMeaning, Meets-rules, size, in-selected, outside-selected}
 use Rattle.workspace.specs.Turns.{Placed, placed, kept, gates-of, Turn, Is-turn, turned, Added, Fits, turned-template, turned-gates, turned-unselected}
-use Rattle.workspace.specs.TurnTheorem.{replaced, TurnLaws, Turning}
+use Rattle.workspace.specs.TurnTheorem.{replaced, Turning}
 use Rattle.workspace.proofs.Placing.{Gates, kept-none, turned-all, turned-formed, turned-restores, length-turned}
 use Rattle.workspace.proofs.Extending as extending
-use Rattle.workspace.proofs.Extending.{Room, holds, holds-selection, failing, seen, selected-none, selected-either}
+use Rattle.workspace.proofs.Extending.{Room, holds-selection, failing, seen, selected-none, selected-either}
 
 kept-whole : (xs : List Placed) → kept (λ _. true) xs ≡ gates-of xs
 kept-whole [] = refl

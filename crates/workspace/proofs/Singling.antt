@@ -5,15 +5,14 @@ use mathlib.Core.Logic.{_⊎_, inl, inr}
 use mathlib.Core.List.{List, [], _∷_, _++_}
 use Prim.Native.Nat.{ℕ, _<_, _≤_}
 use native.Mathlib.Omega.{arith}
-use lib.Dec.{ltb}
 use Rattle.std.specs.shelf.Lists.{All}
-use Rattle.std.specs.declared.option.Option.the-variants.{Some, None}
+use Rattle.std.specs.declared.option.Option.the-variants.{Some}
 use Rattle.std.proofs.shelf.Lists.{append-nil, append-assoc}
 use Rattle.std.proofs.shelf.Elements.{all-append, all-weaker}
 use Rattle.std.proofs.shelf.Tests.{cases-lt, lt-ltb, le-ltb}
 use Rattle.workspace.specs.declared.policy.Shown.{Shown}
 use Rattle.workspace.specs.declared.policy.Reply.the-variants.{Leave, Take}
-use Rattle.workspace.specs.Policy.{Standing, standing, replied, scan, chosen}
+use Rattle.workspace.specs.Policy.{Standing, standing, replied, scan}
 use Rattle.workspace.specs.Policies.{earliest, largest, First-greatest, PolicyLaws}
 
 -- after a close nothing more is taken

@@ -1,5 +1,4 @@
 -- The templates that values in memory stand for.
-use Prim.Native.Nat.{ℕ}
 use lib.ListN.{take}
 use denote.Ref.{now}
 use Rattle.workspace.specs.declared.template.Proposal.{Proposal}

@@ -6,7 +6,7 @@ use lib.Dec.{eqb, leb, ltb}
 use lib.ListN.{length}
 use Rattle.std.specs.Options.{isSome}
 use Rattle.std.specs.Orderings.{Decides}
-use Rattle.gates.specs.Lines.{width, Table}
+use Rattle.gates.specs.Lines.{width}
 use Rattle.gates.specs.Kinds.{KindMeaning}
 use Rattle.workspace.specs.Templates.{TemplateMeaning, size}
 use Rattle.workspace.specs.TemplateTests.{all-pass}

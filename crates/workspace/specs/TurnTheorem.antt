@@ -12,8 +12,8 @@ use Rattle.gates.specs.Cascades.{run, Restores, backward, picked, Moves}
 use Rattle.workspace.specs.Templates.{TemplateMeaning, Meets-rules, size}
 use Rattle.workspace.specs.Turns.{Turn, Is-turn, Added, Fits, turned-gates, turned-unselected}
 
--- the cascade with the gates behind place p at which c holds, which are the first m of the turned ones, taken out,
--- and the inverses of the other turned ones, last to first, put in their stead at p
+-- the cascade without the gates that stand at the places from p on of which c holds, counted from p, which are the first m of the turned ones;
+-- the inverses of the other turned ones, last to first, stand at p in their stead
 abbrev pub replaced : KindMeaning → List Gate → ℕ → ℕ → (ℕ → Bool) → List Gate → List Gate
 replaced k turned p m c gates = take p gates ++ (backward k (drop m turned) ++ picked (λ i. not (c i)) (drop p gates))
 

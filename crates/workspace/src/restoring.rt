@@ -24,7 +24,7 @@ fn run_chosen<K: GateKind>(gates: &[Gate], chosen: PositionSet, state: LineSet) 
 }
 
 // Whether the gates at the chosen positions, in order, restore each state of so many lines.
-pub fn do_chosen_restore<K: GateKind>(gates: &[Gate], chosen: PositionSet, lines: u8) -> bool
+pub(super) fn do_chosen_restore<K: GateKind>(gates: &[Gate], chosen: PositionSet, lines: u8) -> bool
     requires { ⌜ lines ≤ 4 ⌝ }
     ensures { λ r. ⌜ r ≡ restores-test means lines (picked (bit chosen) (now (gates .entry))) ⌝ }
 {

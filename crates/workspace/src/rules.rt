@@ -13,21 +13,21 @@ ghost use Rattle.workspace.specs.Proposals.{proposed};
 ghost use Rattle.workspace.specs.TemplateTests.{gates-test, groups-test, lines-test, selections-test, size-test, whole-test};
 
 // Whether there are one to four lines.
-pub fn are_lines_few(proposal: &Proposal) -> bool
+pub(super) fn are_lines_few(proposal: &Proposal) -> bool
     ensures { λ r. ⌜ r ≡ lines-test (proposed (now (proposal .entry))) ⌝ }
 {
     1 <= proposal.lines && proposal.lines <= MOST_LINES
 }
 
 // Whether there are two to eight gates.
-pub fn are_gates_few(proposal: &Proposal) -> bool
+pub(super) fn are_gates_few(proposal: &Proposal) -> bool
     ensures { λ r. ⌜ r ≡ size-test (proposed (now (proposal .entry))) ⌝ }
 {
     2 <= proposal.gates.len() && proposal.gates.len() <= MOST_GATES
 }
 
 // Whether every gate is well formed for the template's lines.
-pub fn are_gates_well_formed<K: GateKind>(proposal: &Proposal) -> bool
+pub(super) fn are_gates_well_formed<K: GateKind>(proposal: &Proposal) -> bool
     ensures { λ r. ⌜ r ≡ gates-test means (proposed (now (proposal .entry))) ⌝ }
 {
     for gate in proposal.gates {
@@ -39,7 +39,7 @@ pub fn are_gates_well_formed<K: GateKind>(proposal: &Proposal) -> bool
 }
 
 // Whether there are at most three groups, each of at least two positions of the template.
-pub fn are_groups_sound(proposal: &Proposal) -> bool
+pub(super) fn are_groups_sound(proposal: &Proposal) -> bool
     requires { ⌜ length (now (now proposal .gates)) ≤ 8 ⌝ }
     ensures { λ r. ⌜ r ≡ groups-test (proposed (now (proposal .entry))) ⌝ }
 {
@@ -55,7 +55,7 @@ pub fn are_groups_sound(proposal: &Proposal) -> bool
 }
 
 // Whether the whole template restores every state of its lines.
-pub fn does_whole_restore<K: GateKind>(proposal: &Proposal) -> bool
+pub(super) fn does_whole_restore<K: GateKind>(proposal: &Proposal) -> bool
     requires few_lines { ⌜ now proposal .lines ≤ 4 ⌝ }
     requires few_gates { ⌜ length (now (now proposal .gates)) ≤ 8 ⌝ }
     ensures { λ r. ⌜ r ≡ whole-test means (proposed (now (proposal .entry))) ⌝ }
@@ -65,7 +65,7 @@ pub fn does_whole_restore<K: GateKind>(proposal: &Proposal) -> bool
 }
 
 // Whether, for every selection of the groups, the gates in none of the selected do.
-pub fn do_selections_restore<K: GateKind>(proposal: &Proposal) -> bool
+pub(super) fn do_selections_restore<K: GateKind>(proposal: &Proposal) -> bool
     requires few_lines { ⌜ now proposal .lines ≤ 4 ⌝ }
     requires few_gates { ⌜ length (now (now proposal .gates)) ≤ 8 ⌝ }
     requires few_groups { ⌜ length (now (now proposal .groups)) ≤ 3 ⌝ }

@@ -6,7 +6,7 @@ use Rattle.gates.specs.Lines.{width}
 use Rattle.gates.proofs.Members.{bit-above}
 use Rattle.workspace.proofs.positions.has_position.Needs as need
 
-pub returns-else-position-lt32 : need.returns-else-position-lt32
-returns-else-position-lt32 c =
+pub returns-else-position : need.returns-else-position
+returns-else-position c =
     let small : c .args .set < 2 ^ width = omega arith in
-    le-ltb (c .args .position) width (c .if-position-lt32 .left) ∙ sym (bit-above (c .args .set) width (c .args .position) small (c .if-position-lt32 .left))
+    le-ltb (c .args .position) width (c .if-position .left) ∙ sym (bit-above (c .args .set) width (c .args .position) small (c .if-position .left))
