@@ -1,1 +1,9 @@
 pub mod Scans
+pub mod Numbers
+pub mod Rows
+pub mod Ranks
+pub mod Unique
+pub mod Zeros
+pub mod Steps
+pub mod Masks
+pub mod Choosing

@@ -1,1 +1,3 @@
 pub mod Policy
+pub mod Keys
+pub mod Listing

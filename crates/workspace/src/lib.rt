@@ -1,6 +1,12 @@
 // Templates on a shelf, and the replacement of what occurs of them in a cascade.
+mod key;
 mod policy;
+mod walk;
 
+pub use key::KEY_SIZE;
+pub use key::Key;
 pub use policy::Policy;
 pub use policy::Reply;
 pub use policy::Shown;
+pub use walk::Problem;
+pub use walk::choose;
