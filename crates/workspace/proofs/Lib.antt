@@ -1,5 +1,6 @@
 pub mod Scans
 pub mod Numbers
+pub mod NumberSets
 pub mod Rows
 pub mod Ranks
 pub mod Unique

@@ -3,10 +3,9 @@ use mathlib.Core.Path.{_≡_, refl, sym, ap, _∙_}
 use mathlib.Core.Bool.{Bool, true, false}
 use mathlib.Core.List.{List, [], _∷_, _++_}
 use mathlib.Core.Logic.{⊎-elim}
-use Prim.Native.Nat.{ℕ, suc, _+_, _-_, _/_, _%_, _^_, _<_, _≤_}
+use Prim.Native.Nat.{ℕ, suc, _+_, _-_, _/_, _^_, _<_, _≤_}
 use native.Mathlib.Omega.{arith}
 use lib.Count.{trailingZeros}
-use lib.Dec.{eqb}
 use Rattle.std.proofs.shelf.Bits.{shr-shr, shr-le}
 use Rattle.std.proofs.shelf.Tests.{cases-lt, true≢false}
 use Rattle.gates.specs.Lines.{bit}
@@ -14,6 +13,7 @@ use Rattle.gates.proofs.Members.{bit-above, bit-none}
 use Rattle.workspace.specs.declared.policy.Shown.{Shown}
 use Rattle.workspace.specs.Policy.{PolicyMeaning, Standing, scan}
 use Rattle.workspace.specs.Listing.{Covers, listed}
+use Rattle.workspace.proofs.NumberSets.{bit-shift}
 use Rattle.workspace.proofs.Steps.{Seen, seen-skip, seen-more, seen-done}
 use Rattle.workspace.proofs.Zeros.{zeros-set, zeros-clear}
 
@@ -24,10 +24,6 @@ pub record Over (set base rest : ℕ) : Type 0 where
 
 pub over-start : (set : ℕ) → Over set 0 set
 over-start set = record { within = omega arith; left = omega arith }
-
-bit-shift : (set base j : ℕ) → bit (set / 2 ^ base) j ≡ bit set (base + j)
-unfolding bit
-bit-shift set base j = ap (λ (x : ℕ). eqb (x % 2) 1) (shr-shr set base j)
 
 module _ (set base rest : ℕ) (fits : set < 2 ^ 64) (over : Over set base rest) where
   member : (v j : ℕ) → base + j ≡ v → bit set v ≡ bit rest j
