@@ -16,7 +16,13 @@ use triples::TriplesProblem;
 use workspace::Policy;
 
 // Searches for triples of that total, and prints what the policy singles out.
-fn print_choice<P: Policy>(rt: &LibcRuntime, name: &str, policy: &mut P, total: u16, from: usize) -> io::Result<()> {
+fn print_choice<P: Policy>(
+    rt: &LibcRuntime,
+    name: &str,
+    policy: &mut P,
+    total: u16,
+    from: usize,
+) -> io::Result<()> {
     let problem = Triples { total };
     match workspace::choose(&problem, policy, from) {
         None => println!(rt, "{name} {total}: none"),

@@ -82,6 +82,10 @@ pub impl Policy for UntilTwenty as UntilTwentyPolicy {
     fn clear(&mut self) {}
 
     fn show(&mut self, shown: Shown) -> Reply {
-        if shown.saved < 20 { Reply::Take } else { Reply::Close }
+        if shown.saved < 20 {
+            Reply::Take
+        } else {
+            Reply::Close
+        }
     }
 }

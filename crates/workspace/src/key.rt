@@ -17,7 +17,7 @@ pub struct Key {
 
 impl Key {
     // The key of no numbers.
-    pub fn new() -> Key
+    pub(crate) fn new() -> Key
         ensures { λ r. ⌜ keyed r ≡ [] ⌝ }
     {
         Key {
@@ -47,7 +47,7 @@ impl Key {
     }
 
     // The key with one number more; a full key stays as it is.
-    pub fn with(&self, number: u16) -> Key
+    pub(crate) fn with(&self, number: u16) -> Key
         ensures { λ r. ⌜ keyed r ≡ with-number (keyed (now (self .entry))) number ⌝ }
     {
         let level = self.len();
