@@ -16,17 +16,12 @@ pub use fredkin::Fredkin;
 pub use fredkin::FredkinKind;
 pub use gate::Gate;
 pub use gate::GateDebug;
-<<<<<<< HEAD
 pub use gate::GateDefault;
 pub use gate::GateEq;
 pub use gate::GateHash;
 pub use gate::GateOrd;
 pub use gate::GatePartialEq;
 pub use gate::GatePartialOrd;
-=======
-pub use gate::GateEq;
-pub use gate::GatePartialEq;
->>>>>>> 4462a3fc23b93fb41dcddd74cbbc1c21e8504eca
 pub use gate::GateRefusal;
 pub use gate::GateRefusalDebug;
 pub use gate::GateRefusalEq;

@@ -7,3 +7,13 @@ pub mod Deciding
 pub mod Stepping
 pub mod Singling
 pub mod DecidingTurns
+pub mod Scans
+pub mod Numbers
+pub mod NumberSets
+pub mod Rows
+pub mod Ranks
+pub mod Unique
+pub mod Zeros
+pub mod Steps
+pub mod Masks
+pub mod Choosing

@@ -8,3 +8,5 @@ pub mod Policy
 pub mod Policies
 pub mod TurnTests
 pub mod Examples
+pub mod Keys
+pub mod Listing

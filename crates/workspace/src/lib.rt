@@ -1,7 +1,9 @@
 // Templates on a shelf, and the replacement of what occurs of them in a cascade.
+pub mod candidates;
 mod check;
 mod earliest;
 mod examples;
+mod key;
 mod largest;
 mod numbers;
 mod policies;
@@ -12,12 +14,15 @@ mod restoring;
 mod rules;
 mod template;
 mod turn;
+mod walk;
 
 pub use check::check_proposal;
 pub use check::rule_laws;
 pub use earliest::Earliest;
 pub use earliest::EarliestPolicy;
 pub use examples::worked_examples;
+pub use key::KEY_SIZE;
+pub use key::Key;
 pub use largest::Largest;
 pub use largest::LargestPolicy;
 pub use policies::policy_laws;
@@ -29,3 +34,5 @@ pub use template::PositionSet;
 pub use template::Proposal;
 pub use template::Template;
 pub use turn::turn_laws;
+pub use walk::Problem;
+pub use walk::choose;
