@@ -5,7 +5,7 @@ mod earliest;
 mod examples;
 mod key;
 mod largest;
-mod numbers;
+mod refusals;
 mod policies;
 mod policy;
 mod positions;
