@@ -17,3 +17,4 @@ pub mod Zeros
 pub mod Steps
 pub mod Masks
 pub mod Choosing
+pub mod Entries

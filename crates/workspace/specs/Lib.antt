@@ -10,3 +10,5 @@ pub mod TurnTests
 pub mod Examples
 pub mod Keys
 pub mod Listing
+pub mod Conditions
+pub mod Shelves

@@ -1,6 +1,7 @@
 // Templates, as they are proposed and as a shelf holds them.
 use gates::Gate;
 ghost use lib.ListN.{length, take};
+ghost use mathlib.Core.List.{[]};
 ghost use mathlib.Core.Path.{_≡_};
 ghost use Prim.Native.Nat.{_≤_};
 ghost use Rattle.workspace.specs.Proposals.{proposed, template-of};
@@ -16,6 +17,14 @@ pub const MOST_GATES: usize = 8;
 
 // How many groups a template lists at most.
 pub const MOST_GROUPS: usize = 3;
+
+// What stands behind a template's gates.
+const BLANK: Gate = Gate {
+    a: 0,
+    b: 0,
+    positive: 0,
+    negative: 0,
+};
 
 // A template that is proposed: any number of lines, gates and groups.
 #[derive(Clone, Copy)]
@@ -48,22 +57,29 @@ fn padded<T: Copy, const N: usize>(items: &[T], blank: T) -> [T; N]
 }
 
 impl Template {
+    // A template of no gates, which no shelf counts.
+    pub(super) fn blank() -> Template
+        ensures { λ r. ⌜ template-of r .gates ≡ [] ⌝ }
+    {
+        Template {
+            lines: 0,
+            size: 0,
+            gates: [BLANK; MOST_GATES],
+            group_count: 0,
+            groups: [0; MOST_GROUPS],
+        }
+    }
+
     // What is proposed, held.
     pub(super) fn holding(proposal: &Proposal) -> Template
         requires few_gates { ⌜ length (now (now proposal .gates)) ≤ 8 ⌝ }
         requires few_groups { ⌜ length (now (now proposal .groups)) ≤ 3 ⌝ }
         ensures { λ r. ⌜ template-of r ≡ proposed (now (proposal .entry)) ⌝ }
     {
-        let blank = Gate {
-            a: 0,
-            b: 0,
-            positive: 0,
-            negative: 0,
-        };
         Template {
             lines: proposal.lines,
             size: proposal.gates.len(),
-            gates: padded(proposal.gates, blank),
+            gates: padded(proposal.gates, BLANK),
             group_count: proposal.groups.len(),
             groups: padded(proposal.groups, 0),
         }
