@@ -18,3 +18,4 @@ pub mod Steps
 pub mod Masks
 pub mod Choosing
 pub mod Entries
+pub mod Calling

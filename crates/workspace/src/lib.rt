@@ -2,6 +2,7 @@
 pub mod candidates;
 mod check;
 mod earliest;
+mod edits;
 mod entry;
 mod examples;
 mod key;

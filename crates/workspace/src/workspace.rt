@@ -1,9 +1,6 @@
 // The workspace: a store of gates, a shelf of templates and a policy.
 use super::Policy;
-use super::Proposal;
 use super::TemplateRefusal;
-use super::check_proposal;
-use super::shelf::MOST_ENTRIES;
 use super::shelf::Shelf;
 use gates::Gate;
 use stores::Store;
@@ -11,16 +8,15 @@ use stores::StoreRefusal;
 ghost use lib.ListN.{length};
 ghost use mathlib.Core.Path.{_≡_};
 ghost use Rattle.stores.specs.Stores.{read-outcome};
-ghost use Rattle.workspace.specs.Conditions.{Sound, after, answer, append-outcome, condition, opened, replacements-outcome, shelve-outcome, withdraw-outcome};
-ghost use Rattle.workspace.specs.Proposals.{proposed};
+ghost use Rattle.workspace.specs.Conditions.{condition, opened, replacements-outcome};
 ghost use Rattle.workspace.specs.Shelves.{entries-of};
 
 // A cascade in a store, which templates on the shelf shorten; the policy decides which occurrence is replaced.
 #[derive(Drop)]
 pub struct Workspace<S, P> {
-    store: S,
-    policy: P,
-    shelf: Shelf,
+    pub(crate) store: S,
+    pub(crate) policy: P,
+    pub(crate) shelf: Shelf,
 }
 
 impl<S: Store, P: Policy> Workspace<S, P> {
