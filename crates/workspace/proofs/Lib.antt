@@ -19,3 +19,4 @@ pub mod Masks
 pub mod Choosing
 pub mod Entries
 pub mod Calling
+pub mod Occurring

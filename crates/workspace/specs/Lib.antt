@@ -12,3 +12,4 @@ pub mod Keys
 pub mod Listing
 pub mod Conditions
 pub mod Shelves
+pub mod Occurrences
