@@ -81,6 +81,8 @@ rows =
     ∷ record { asked = checked toffoli (four-inversions (3 ∷ 6 ∷ [])); expected = refused 8 }
     ∷ record { asked = checked toffoli (four-inversions (3 ∷ [])); expected = accepted }
     ∷ record { asked = checked toffoli (four-inversions (6 ∷ [])); expected = accepted }
+    -- a group may be the whole template, and groups may be equal
+    ∷ record { asked = checked toffoli (four-inversions (15 ∷ 15 ∷ [])); expected = accepted }
     -- flipping line 0 alone is no turn, flipping both lines is one
     ∷ record { asked = turn fredkin 2 two-exchanges (flipping 1); expected = holds false }
     ∷ record { asked = turn fredkin 2 two-exchanges (flipping 3); expected = holds true }

@@ -8,5 +8,5 @@ pub returns : need.returns
 unfolding bit where-below every-below controls-hold controls-form apart ones
 returns c = record {
   gates = (refl, (refl, (refl, (refl, (refl, (refl, tt))))));
-  templates = (refl, (refl, (refl, (refl, (refl, (refl, (refl, tt)))))));
+  templates = (refl, (refl, (refl, (refl, (refl, (refl, (refl, (refl, tt))))))));
 }
