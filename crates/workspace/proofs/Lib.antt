@@ -20,3 +20,4 @@ pub mod Choosing
 pub mod Entries
 pub mod Calling
 pub mod Occurring
+pub mod DecidingOccurrences

@@ -13,3 +13,4 @@ pub mod Listing
 pub mod Conditions
 pub mod Shelves
 pub mod Occurrences
+pub mod OccurrenceTests

@@ -30,7 +30,7 @@ pub use key::KEY_SIZE;
 pub use key::Key;
 pub use largest::Largest;
 pub use largest::LargestPolicy;
-pub use occurrence::replacing_laws;
+pub use occurrence::occurrence_laws;
 pub use policies::policy_laws;
 pub use policy::Policy;
 pub use policy::Reply;
