@@ -9,7 +9,7 @@ use lib.Pow.{pow-mono}
 use lib.ListN.{length, getD}
 use lib.Dec.{eqb}
 use Rattle.std.proofs.shelf.Elements.{all-getD, all-weaker, all-from-getD}
-use Rattle.std.proofs.shelf.Tests.{cases-lt, cases-eq, eq-eqb, ne-eqb, leb-true, le-leb, ltb-true, lt-ltb, and-parts, and-from, not-true, not-from-false, or-parts, or-from}
+use Rattle.std.proofs.shelf.Tests.{cases-lt, cases-eq, eq-eqb, ne-eqb, eqb-true, both-ways, or-cases, or-right, leb-true, le-leb, ltb-true, lt-ltb, and-parts, and-from, not-true, not-from-false, or-parts, or-from}
 use Rattle.gates.specs.declared.gate.Sign.{Sign}
 use Rattle.gates.specs.declared.gate.Sign.the-variants.{Positive, Negative}
 use Rattle.gates.specs.Lines.{State, Table, Outside, width, bit, with-line, upto, inverted, through, where-below, every-below, unmoved, counted}
@@ -204,6 +204,35 @@ module _ (l n : ℕ) (t : List ℕ) (table : Table l n t) where
 -- one line more, before renaming or after
 pub member-at : (l m i : ℕ) → i < width → bit (with-member l m) i ≡ (eqb i l || bit m i)
 member-at l m i lt = bit-where width (λ i. eqb i l || bit m i) i lt
+
+-- a line of the two or of the one
+pub only-member : (x i : ℕ) → bit (with-member x 0) i ≡ true → i ≡ x
+only-member x i h = by (cases-lt i width)
+  where
+    by : (i < width) ⊎ (width ≤ i) → i ≡ x
+    by (inl lt) = none (or-cases (eqb i x) (bit 0 i) (sym (member-at x 0 i lt) ∙ h))
+      where
+        none : (eqb i x ≡ true) ⊎ (bit 0 i ≡ true) → i ≡ x
+        none (inl e) = eqb-true i x e
+        none (inr e) = absurd (both-ways (bit 0 i) (bit-none i) e)
+    by (inr ge) = absurd (both-ways (bit (with-member x 0) i) (bit-above (with-member x 0) width i (where-lt width (λ j. eqb j x || bit 0 j)) ge) h)
+
+pub two-members : (x y i : ℕ) → bit (with-member x (with-member y 0)) i ≡ true → (i ≡ x) ⊎ (i ≡ y)
+two-members x y i h = by (cases-lt i width)
+  where
+    by : (i < width) ⊎ (width ≤ i) → (i ≡ x) ⊎ (i ≡ y)
+    by (inl lt) = either (or-cases (eqb i x) (bit (with-member y 0) i) (sym (member-at x (with-member y 0) i lt) ∙ h))
+      where
+        either : (eqb i x ≡ true) ⊎ (bit (with-member y 0) i ≡ true) → (i ≡ x) ⊎ (i ≡ y)
+        either (inl e) = inl (eqb-true i x e)
+        either (inr e) = inr (only-member y i e)
+    by (inr ge) = absurd (both-ways (bit (with-member x (with-member y 0)) i) (bit-above (with-member x (with-member y 0)) width i (where-lt width (λ j. eqb j x || bit (with-member y 0) j)) ge) h)
+
+pub is-member : (x m : ℕ) → x < width → bit (with-member x m) x ≡ true
+is-member x m lt = member-at x m x lt ∙ ap (λ (b : Bool). b || bit m x) (eq-eqb x x refl)
+
+pub still-member : (x m i : ℕ) → i < width → bit m i ≡ true → bit (with-member x m) i ≡ true
+still-member x m i lt e = member-at x m i lt ∙ or-right (eqb i x) (bit m i) e
 
 pub members-swap : (x y m : ℕ) → with-member x (with-member y m) ≡ with-member y (with-member x m)
 members-swap x y m =

@@ -9,7 +9,7 @@ use lib.ListN.{length, getD}
 use lib.Dec.{eqb, ltb}
 use Rattle.std.specs.declared.option.Option.{Option}
 use Rattle.std.specs.declared.option.Option.the-variants.{Some, None}
-use Rattle.std.proofs.shelf.Tests.{cases-lt, cases-eq, cases-bool, eq-eqb, ne-eqb, eqb-true, eqb-false, ltb-true, lt-ltb, and-parts, and-from, not-true, not-from-false, or-cases, or-parts}
+use Rattle.std.proofs.shelf.Tests.{both-ways, cases-lt, cases-eq, cases-bool, eq-eqb, ne-eqb, eqb-true, eqb-false, ltb-true, lt-ltb, and-parts, and-from, not-true, not-from-false, or-cases, or-parts}
 use Rattle.gates.specs.declared.gate.Gate.{Gate}
 use Rattle.gates.specs.declared.gate.Sign.{Sign}
 use Rattle.gates.specs.Lines.{State, Table, Outside, width, bit, with-line, upto, inverted-if, inverted, through, unmoved}
@@ -17,7 +17,7 @@ use Rattle.gates.specs.Kinds.{KindMeaning, KindLaws, Formed, Idle, Same-lines,
 use Rattle.gates.specs.Controls.{gate, reads, control, controls-hold, with-member, renamed-set, wanted, with-flipped-controls}
 use Rattle.gates.specs.Fredkin.{other, fires, clear-of, same-pair, disjoint-pairs, fredkin}
 use Rattle.gates.proofs.States.{with-here, with-there, upto-below, upto-above, through-at, inverted-if-twice, opposite, beq-same}
-use Rattle.gates.proofs.ControlSets.{Sets, sets-of, form-of, steady, steady-with, steady-upto, ready, fails, in-table, table-lt, outside-ne, control-at, renamed-sets, renamed-hold, empty-renamed, member-renamed, members-swap, set-back, unmoved-at, set-unmoved, flipped-sets, flipped-control, flipped-hold, more-control, more-hold, more-sets}
+use Rattle.gates.proofs.ControlSets.{Sets, sets-of, form-of, steady, steady-with, steady-upto, ready, fails, in-table, table-lt, outside-ne, control-at, renamed-sets, renamed-hold, two-members, is-member, still-member, empty-renamed, member-renamed, members-swap, set-back, unmoved-at, set-unmoved, flipped-sets, flipped-control, flipped-hold, more-control, more-hold, more-sets}
 use Rattle.gates.proofs.ToffoliLaws.{some-same}
 
 record Shape (n : ℕ) (g : Gate) : Type 0 where
@@ -99,6 +99,26 @@ unseen g h s ea eb = ap (λ (b : Bool). (ltb (h .a) width && ltb (h .b) width) &
 
 apart-lines : {n : ℕ} {g : Gate} → Shape n g → g .b ≡ g .a → ⊥
 apart-lines h e = omega (arith, h .order)
+
+changes : (n : ℕ) (g : Gate) → Formed fredkin n g → (s : State) (i : ℕ) → bit (fredkin .targets g) i ≡ false → fredkin .sends g s i ≡ s i
+changes n g f s i h =
+    let sh = shape n g f in
+    let la : g .a < width = omega (arith, sh .order, sh .below, sh .sets .few) in
+    let lb : g .b < width = omega (arith, sh .below, sh .sets .few) in
+    let T = with-member (g .a) (with-member (g .b) 0) in
+    aside g s i
+    (λ e. both-ways (bit T i) h (ap (bit T) e ∙ is-member (g .a) (with-member (g .b) 0) la))
+    (λ e. both-ways (bit T i) h (ap (bit T) e ∙ still-member (g .a) (with-member (g .b) 0) (g .b) lb (is-member (g .b) 0 lb)))
+
+targets-apart : (n : ℕ) (g : Gate) → Formed fredkin n g → (i : ℕ) → bit (fredkin .targets g) i ≡ true → (i < n) × (reads g i ≡ false)
+targets-apart n g f i h = by (two-members (g .a) (g .b) i h)
+  where
+    sh : Shape n g
+    sh = shape n g f
+
+    by : (i ≡ g .a) ⊎ (i ≡ g .b) → (i < n) × (reads g i ≡ false)
+    by (inl e) = (omega (arith, e, sh .order, sh .below), ap (reads g) e ∙ sh .off-a)
+    by (inr e) = (omega (arith, e, sh .below), ap (reads g) e ∙ sh .off-b)
 
 self : (n : ℕ) (g : Gate) → Formed fredkin n g → (s : State) → fredkin .sends g (fredkin .sends g s) ≡ s
 self n g f s = fun-ext λ i.
@@ -440,6 +460,8 @@ controlled-does n l v g f lt idle s =
 pub fredkin-laws : KindLaws fredkin
 fredkin-laws = record {
   local = local;
+  changes = changes;
+  targets-apart = targets-apart;
   undoes = self;
   undone = self;
   inverse-formed = λ n g f. f;

@@ -8,3 +8,4 @@ pub mod Runs
 pub mod Moving
 pub mod CascadesTheorem
 pub mod Acting
+pub mod Rows

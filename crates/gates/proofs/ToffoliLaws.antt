@@ -8,7 +8,7 @@ use native.Mathlib.Omega.{arith}
 use lib.ListN.{length, getD}
 use lib.Dec.{eqb, ltb}
 use Rattle.std.specs.declared.option.Option.the-variants.{Some}
-use Rattle.std.proofs.shelf.Tests.{cases-lt, cases-eq, cases-bool, eq-eqb, ne-eqb, eqb-true, ltb-true, lt-ltb, and-parts, and-from, not-true, not-from-false}
+use Rattle.std.proofs.shelf.Tests.{both-ways, cases-lt, cases-eq, cases-bool, eq-eqb, ne-eqb, eqb-true, ltb-true, lt-ltb, and-parts, and-from, not-true, not-from-false}
 use Rattle.gates.specs.declared.gate.Gate.{Gate}
 use Rattle.gates.specs.declared.gate.Sign.{Sign}
 use Rattle.gates.specs.Lines.{State, Table, Outside, width, bit, with-line, upto, inverted-if, inverted, through, unmoved}
@@ -16,7 +16,7 @@ use Rattle.gates.specs.Kinds.{KindMeaning, KindLaws, Formed, Idle, Same-lines,
 use Rattle.gates.specs.Controls.{gate, reads, controls-hold, with-member, renamed-set, wanted, with-control}
 use Rattle.gates.specs.Toffoli.{fires, toffoli}
 use Rattle.gates.proofs.States.{with-here, with-there, upto-below, upto-above, through-at, inverted-if-twice, inverted-if-both, opposite}
-use Rattle.gates.proofs.ControlSets.{Sets, sets-of, form-of, steady, steady-with, steady-upto, ready, fails, in-table, table-lt, outside-ne, same-line, control-at, renamed-sets, renamed-hold, empty-renamed, member-renamed, set-back, unmoved-at, set-unmoved, flipped-sets, flipped-control, flipped-hold, more-control, more-hold, more-sets}
+use Rattle.gates.proofs.ControlSets.{Sets, sets-of, form-of, steady, steady-with, steady-upto, ready, fails, in-table, table-lt, outside-ne, same-line, control-at, renamed-sets, renamed-hold, only-member, is-member, empty-renamed, member-renamed, set-back, unmoved-at, set-unmoved, flipped-sets, flipped-control, flipped-hold, more-control, more-hold, more-sets}
 
 -- what a well-formed gate has
 record Shape (n : ℕ) (g : Gate) : Type 0 where
@@ -55,6 +55,15 @@ unseen g h s e = ap (λ (b : Bool). ltb (h .a) width && b) (steady (h .positive)
     at : (i : ℕ) → (i ≡ g .a) ⊎ (i ≡ g .a → ⊥) → (reads h i ≡ false) ⊎ (toffoli .sends g s i ≡ s i)
     at i (inl q) = inl (ap (reads h) q ∙ e)
     at i (inr ne) = inr (aside g s i ne)
+
+changes : (n : ℕ) (g : Gate) → Formed toffoli n g → (s : State) (i : ℕ) → bit (toffoli .targets g) i ≡ false → toffoli .sends g s i ≡ s i
+changes n g f s i h = aside g s i (λ e. both-ways (bit (with-member (g .a) 0) i) h (ap (bit (with-member (g .a) 0)) e ∙ is-member (g .a) 0 (inside n g (shape n g f))))
+
+targets-apart : (n : ℕ) (g : Gate) → Formed toffoli n g → (i : ℕ) → bit (toffoli .targets g) i ≡ true → (i < n) × (reads g i ≡ false)
+targets-apart n g f i h =
+    let sh = shape n g f in
+    let same : i ≡ g .a = only-member (g .a) i h in
+    (omega (arith, same, sh .target), ap (reads g) same ∙ sh .off)
 
 self : (n : ℕ) (g : Gate) → Formed toffoli n g → (s : State) → toffoli .sends g (toffoli .sends g s) ≡ s
 self n g f s = fun-ext λ i.
@@ -222,6 +231,8 @@ controlled-does n l v g f lt idle s =
 pub toffoli-laws : KindLaws toffoli
 toffoli-laws = record {
   local = local;
+  changes = changes;
+  targets-apart = targets-apart;
   undoes = self;
   undone = self;
   inverse-formed = λ n g f. f;

@@ -4,6 +4,7 @@ use mathlib.Core.Bool.{Bool, true, false}
 use mathlib.Core.List.{List, [], _∷_}
 use Prim.Native.Nat.{ℕ, suc}
 use lib.ListN.{length, getD}
+use Rattle.std.specs.Options.{isSome}
 use Rattle.std.specs.shelf.Lists.{All}
 use Rattle.gates.specs.declared.gate.Gate.{Gate}
 use Rattle.gates.specs.Lines.{State}
@@ -12,10 +13,13 @@ use Rattle.gates.specs.Kinds.{KindMeaning}
 use Rattle.gates.specs.Toffoli.{toffoli}
 use Rattle.gates.specs.Fredkin.{fredkin}
 
--- what can be asked of a kind: where a gate sends a state, written line 0 first, and whether two gates interchange
+-- what can be asked of a kind: where a gate sends a state, written line 0 first, whether two gates interchange, whether a gate is
+-- well formed for so many lines, and whether it has a flipped form for the chosen lines
 pub data Question : Type 0 where
   sent : KindMeaning → Gate → List Bool → Question
   interchange : KindMeaning → Gate → Gate → Question
+  well-formed : KindMeaning → ℕ → Gate → Question
+  flips : KindMeaning → ℕ → Gate → Question
 
 -- an answer: a state, written line 0 first, or yes or no
 pub data Answer : Type 0 where
@@ -35,6 +39,8 @@ written i (v ∷ values) s = s i ∷ written (suc i) values s
 abbrev pub answer : Question → Answer
 answer (sent k g values) = state (written 0 values (k .sends g (as-state values)))
 answer (interchange k g h) = holds (k .free g h)
+answer (well-formed k n g) = holds (k .form n g)
+answer (flips k f g) = holds (isSome (k .flipped f g))
 
 -- a question with the answer that it must have
 pub record Row : Type 0 where
@@ -60,6 +66,20 @@ rows =
     ∷ record { asked = interchange toffoli (gate 0 0 2 0) (gate 0 0 0 4); expected = holds true }
     -- t 0 +1 and t 1 do not
     ∷ record { asked = interchange toffoli (gate 0 0 2 0) (gate 1 0 0 0); expected = holds false }
+    -- f 0 1 +2 and f 0 1 -2 interchange, and so do f 0 1 and f 2 3; f 0 1 and f 1 2 do not
+    ∷ record { asked = interchange fredkin (gate 0 1 4 0) (gate 0 1 0 4); expected = holds true }
+    ∷ record { asked = interchange fredkin (gate 0 1 0 0) (gate 2 3 0 0); expected = holds true }
+    ∷ record { asked = interchange fredkin (gate 0 1 0 0) (gate 1 2 0 0); expected = holds false }
+    -- t 2 +0 -1 is well formed for 3 lines and not for 2; with both signs on line 0 it is not well formed
+    ∷ record { asked = well-formed toffoli 3 (gate 2 0 1 2); expected = holds true }
+    ∷ record { asked = well-formed toffoli 2 (gate 2 0 1 2); expected = holds false }
+    ∷ record { asked = well-formed toffoli 3 (gate 2 0 1 1); expected = holds false }
+    -- f 0 1 is well formed for 2 lines, f 1 0 is not
+    ∷ record { asked = well-formed fredkin 2 (gate 0 1 0 0); expected = holds true }
+    ∷ record { asked = well-formed fredkin 2 (gate 1 0 0 0); expected = holds false }
+    -- f 0 1 has no flipped form for line 0 alone, but one for both lines
+    ∷ record { asked = flips fredkin 1 (gate 0 1 0 0); expected = holds false }
+    ∷ record { asked = flips fredkin 3 (gate 0 1 0 0); expected = holds true }
     ∷ []
 
 -- every row is right

@@ -1,6 +1,6 @@
 -- What a gate kind means, and the laws that every kind shows.
 use mathlib.Core.Path.{_≡_}
-use mathlib.Core.Bool.{Bool, true, cond, Bool·beq}
+use mathlib.Core.Bool.{Bool, true, false, cond, Bool·beq}
 use mathlib.Core.List.{List}
 use Prim.Native.Nat.{ℕ, _<_}
 use lib.ListN.{getD}
@@ -9,7 +9,7 @@ use Rattle.std.specs.declared.option.Option.the-variants.{Some}
 use Rattle.gates.specs.declared.gate.Gate.{Gate}
 use Rattle.gates.specs.declared.gate.Sign.{Sign}
 use Rattle.gates.specs.Lines.{State, bit, with-line, upto, inverted, through, Outside, Table, unmoved}
-use Rattle.gates.specs.Controls.{image, renamed-set, exchanged, more-positive, more-negative, wanted}
+use Rattle.gates.specs.Controls.{reads, image, renamed-set, exchanged, more-positive, more-negative, wanted}
 
 -- a kind, by what its gates are and do
 pub record KindMeaning : Type 0 where
@@ -66,6 +66,9 @@ pub record Added-lines (k : KindMeaning) (l : ℕ) (sign : Sign) (g h : Gate) : 
 pub record KindLaws (k : KindMeaning) : Type 0 where
   -- a gate well formed for n lines neither reads nor changes the lines from n on
   pub local : (n : ℕ) (g : Gate) → Formed k n g → (s u : State) → k .sends g (upto n s u) ≡ upto n (k .sends g s) u
+  -- it changes none but its target lines, which are lines below n and no controls
+  pub changes : (n : ℕ) (g : Gate) → Formed k n g → (s : State) (i : ℕ) → bit (k .targets g) i ≡ false → k .sends g s i ≡ s i
+  pub targets-apart : (n : ℕ) (g : Gate) → Formed k n g → (i : ℕ) → bit (k .targets g) i ≡ true → (i < n) × (reads g i ≡ false)
   -- a gate and its inverse, in either order, restore every state
   pub undoes : (n : ℕ) (g : Gate) → Formed k n g → (s : State) → k .sends (k .inverse g) (k .sends g s) ≡ s
   pub undone : (n : ℕ) (g : Gate) → Formed k n g → (s : State) → k .sends g (k .sends (k .inverse g) s) ≡ s
