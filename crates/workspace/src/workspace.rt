@@ -7,8 +7,8 @@ use stores::Store;
 use stores::StoreRefusal;
 ghost use lib.ListN.{length};
 ghost use mathlib.Core.Path.{_≡_};
-ghost use Rattle.stores.specs.Stores.{read-outcome};
-ghost use Rattle.workspace.specs.Conditions.{condition, opened, replacements-outcome};
+ghost use Rattle.stores.specs.Stores.{Sound as Sound-store, read-outcome};
+ghost use Rattle.workspace.specs.Conditions.{Sound, condition, opened, replacements-outcome};
 ghost use Rattle.workspace.specs.Shelves.{entries-of};
 
 // A cascade in a store, which templates on the shelf shorten; the policy decides which occurrence is replaced.
@@ -24,6 +24,7 @@ impl<S: Store, P: Policy> Workspace<S, P> {
     pub fn new(store: S, policy: P) -> Workspace<S, P>
         ensures holds { λ r. ⌜ r .store ≡ store ⌝ ∗ ⌜ r .policy ≡ policy ⌝ }
         ensures opens { λ r. ⌜ condition (S·Store .means (r .store)) (entries-of (r .shelf .entries) (r .shelf .count)) ≡ opened (S·Store .means store) ⌝ }
+        ensures sound { λ r. ⌜ (Sound-store (Kind·GateKind .means) (S·Store .means store) → Sound (Kind·GateKind .means) (condition (S·Store .means (r .store)) (entries-of (r .shelf .entries) (r .shelf .count)))) ⌝ }
     {
         Workspace {
             store,
