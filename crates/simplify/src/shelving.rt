@@ -103,8 +103,7 @@ fn tell_withdraw<S: Store, P: Policy>(
     workspace: &mut Workspace<S, P>,
     number: usize,
 ) -> io::Result<()> {
-    print!(rt, "withdraw ")?;
-    print!(rt, "{number}")?;
+    print!(rt, "withdraw {number}")?;
     tell_outcome(rt, "", "done", workspace.withdraw(number))
 }
 
@@ -122,55 +121,74 @@ fn tell_entries<S: Store, P: Policy>(
     println!(rt, "entries {count}")
 }
 
-// The pair, the five gates with their groups, the five without the last, and four inversions with two groups.
-fn tell_toffoli<S: Store<Kind = Toffoli> + Drop>(rt: &LibcRuntime, store: S) -> io::Result<()> {
-    let mut workspace = Workspace::new(store, Earliest {});
-    let none = [0u32; 0];
+// Shelves the pair, and the five gates with their groups.
+fn tell_classics<S: Store<Kind = Toffoli>, P: Policy>(
+    rt: &LibcRuntime,
+    workspace: &mut Workspace<S, P>,
+) -> io::Result<()> {
     let pair = Proposal {
         lines: 1,
         gates: &PAIR,
-        groups: &none,
+        groups: &[],
     };
-    tell_shelve(rt, &mut workspace, "pair", &pair)?;
+    tell_shelve(rt, workspace, "pair", &pair)?;
     let five = Proposal {
         lines: 2,
         gates: &FIVE,
         groups: &[0b10101, 0b11010],
     };
-    tell_shelve(rt, &mut workspace, "five", &five)?;
+    tell_shelve(rt, workspace, "five", &five)
+}
+
+// Proposes the five without the last, which do not restore, and four inversions, of which two groups leave one.
+fn tell_refused<S: Store<Kind = Toffoli>, P: Policy>(
+    rt: &LibcRuntime,
+    workspace: &mut Workspace<S, P>,
+) -> io::Result<()> {
     let short = Proposal {
         lines: 2,
         gates: &FIVE[0..4],
-        groups: &none,
+        groups: &[],
     };
-    tell_shelve(rt, &mut workspace, "five without the last", &short)?;
+    tell_shelve(rt, workspace, "five without the last", &short)?;
     let four = Proposal {
         lines: 1,
         gates: &[INVERSION; 4],
         groups: &[0b11, 0b110],
     };
-    tell_shelve(rt, &mut workspace, "four inversions", &four)?;
-    tell_shelve(rt, &mut workspace, "pair again", &pair)?;
+    tell_shelve(rt, workspace, "four inversions", &four)
+}
+
+// A shelf of Toffoli templates: shelves some, withdraws the second, and asks for a number that is no longer there.
+fn tell_toffoli<S: Store<Kind = Toffoli> + Drop>(rt: &LibcRuntime, store: S) -> io::Result<()> {
+    let mut workspace = Workspace::new(store, Earliest {});
+    tell_classics(rt, &mut workspace)?;
+    tell_refused(rt, &mut workspace)?;
+    let again = Proposal {
+        lines: 1,
+        gates: &PAIR,
+        groups: &[],
+    };
+    tell_shelve(rt, &mut workspace, "pair again", &again)?;
     tell_entries(rt, &workspace)?;
     tell_withdraw(rt, &mut workspace, 1)?;
     tell_entries(rt, &workspace)?;
     tell_withdraw(rt, &mut workspace, 2)
 }
 
-// The two exchanges, and the pair, whose gates are no Fredkin gates.
+// A shelf of Fredkin templates: the two exchanges, and the pair, whose gates are no Fredkin gates.
 fn tell_fredkin<S: Store<Kind = Fredkin> + Drop>(rt: &LibcRuntime, store: S) -> io::Result<()> {
     let mut workspace = Workspace::new(store, Earliest {});
-    let none = [0u32; 0];
     let exchanges = Proposal {
         lines: 2,
         gates: &EXCHANGES,
-        groups: &none,
+        groups: &[],
     };
     tell_shelve(rt, &mut workspace, "exchanges", &exchanges)?;
     let pair = Proposal {
         lines: 1,
         gates: &PAIR,
-        groups: &none,
+        groups: &[],
     };
     tell_shelve(rt, &mut workspace, "pair of another kind", &pair)?;
     tell_entries(rt, &workspace)

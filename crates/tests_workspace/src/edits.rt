@@ -70,13 +70,26 @@ fn check_withdrawing<S: Store<Kind = Toffoli> + Drop>(store: S) -> Result<(), Fa
     check_entries(&workspace, 0)
 }
 
+// The same on a plain store.
+#[test]
+fn withdrawing() -> Result<(), Fail> {
+    let mut records = [T0; 1];
+    let store: PlainStore<Toffoli> = PlainStore::new(&mut records, 2);
+    check_withdrawing(store)
+}
+
+// Fills a bare shelf with pairs.
+fn fill<S: Store<Kind = Toffoli>, P: Policy>(workspace: &mut Workspace<S, P>) -> Result<(), Fail> {
+    for entry in 0..64usize {
+        check_eq(shelve(workspace, 1, &[T0, T0]), 0).note(entry)?;
+    }
+    check_entries(workspace, 64)
+}
+
 // A full shelf refuses with 4, but only what breaks no rule; when one is withdrawn there is room for one.
 fn check_full_shelf<S: Store<Kind = Toffoli> + Drop>(store: S) -> Result<(), Fail> {
     let mut workspace = Workspace::new(store, Earliest {});
-    for entry in 0..64usize {
-        check_eq(shelve(&mut workspace, 1, &[T0, T0]), 0).note(entry)?;
-    }
-    check_entries(&workspace, 64)?;
+    fill(&mut workspace)?;
     check_eq(shelve(&mut workspace, 1, &[T0, T0]), 4)?;
     check_eq(shelve(&mut workspace, 5, &[T0, T0]), 1)?;
     check_eq(shelve(&mut workspace, 1, &[T0]), 5)?;
@@ -88,12 +101,18 @@ fn check_full_shelf<S: Store<Kind = Toffoli> + Drop>(store: S) -> Result<(), Fai
     check_eq(shelve(&mut workspace, 2, &[T1, T1]), 4)
 }
 
+// The same on a plain store.
+#[test]
+fn full_shelf() -> Result<(), Fail> {
+    let mut records = [T0; 1];
+    let store: PlainStore<Toffoli> = PlainStore::new(&mut records, 1);
+    check_full_shelf(store)
+}
+
 // On a full shelf, the refusals of groups come before 4, too.
 fn check_groups_on_full_shelf<S: Store<Kind = Toffoli> + Drop>(store: S) -> Result<(), Fail> {
     let mut workspace = Workspace::new(store, Earliest {});
-    for entry in 0..64usize {
-        check_eq(shelve(&mut workspace, 1, &[T0, T0]), 0).note(entry)?;
-    }
+    fill(&mut workspace)?;
     let gates = [T0; 4];
     for (group, expected) in [(1u32, 7u8), (10, 4), (7, 8)] {
         let groups = [group];
@@ -105,6 +124,14 @@ fn check_groups_on_full_shelf<S: Store<Kind = Toffoli> + Drop>(store: S) -> Resu
         check_eq(number(workspace.shelve(&proposal)), expected).note(group)?;
     }
     check_entries(&workspace, 64)
+}
+
+// The same on a plain store.
+#[test]
+fn groups_on_full_shelf() -> Result<(), Fail> {
+    let mut records = [T0; 1];
+    let store: PlainStore<Toffoli> = PlainStore::new(&mut records, 1);
+    check_groups_on_full_shelf(store)
 }
 
 // Gates are appended behind one another: 2 comes before 3, and a refusal leaves the list.
@@ -125,27 +152,7 @@ fn check_appending<S: Store<Kind = Toffoli> + Drop>(store: S) -> Result<(), Fail
     check_eq(store.count(), 2)
 }
 
-#[test]
-fn withdrawing() -> Result<(), Fail> {
-    let mut records = [T0; 1];
-    let store: PlainStore<Toffoli> = PlainStore::new(&mut records, 2);
-    check_withdrawing(store)
-}
-
-#[test]
-fn full_shelf() -> Result<(), Fail> {
-    let mut records = [T0; 1];
-    let store: PlainStore<Toffoli> = PlainStore::new(&mut records, 1);
-    check_full_shelf(store)
-}
-
-#[test]
-fn groups_on_full_shelf() -> Result<(), Fail> {
-    let mut records = [T0; 1];
-    let store: PlainStore<Toffoli> = PlainStore::new(&mut records, 1);
-    check_groups_on_full_shelf(store)
-}
-
+// The same on a plain store with room for two gates.
 #[test]
 fn appending() -> Result<(), Fail> {
     let mut records = [T3; 2];
