@@ -1,6 +1,7 @@
 // Runs a full adder over every state of its lines and back again, and prints what it saw.
 mod adder;
 mod round_trip;
+mod shelving;
 
 use adder::ADDER;
 use adder::LINES;
@@ -28,5 +29,6 @@ fn main(rt: LibcRuntime) -> io::Result<()> {
     println!(rt, "lines {LINES}")?;
     println!(rt, "gates {gates}")?;
     println!(rt, "states run {run}")?;
-    println!(rt, "states restored {restored}")
+    println!(rt, "states restored {restored}")?;
+    shelving::tell_shelving(&rt)
 }
