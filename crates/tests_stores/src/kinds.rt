@@ -46,11 +46,11 @@ pub impl TestKind for Toffoli as TestToffoli {
 pub impl TestKind for Fredkin as TestFredkin {
     fn gate_of(number: u32) -> Gate {
         let (a, b) = pair((number % 6) as u8);
-        controlled(a, b, weight(a) + weight(b), number / 6)
+        controlled(a, b, weight(a) | weight(b), number / 6)
     }
 
     fn is_formed(gate: Gate) -> bool {
-        gate.a < gate.b && gate.b < 4 && is_part_once(gate, weight(gate.a) + weight(gate.b))
+        gate.a < gate.b && gate.b < 4 && is_part_once(gate, weight(gate.a) | weight(gate.b))
     }
 
     fn moved(gate: Gate, table: Table) -> Gate {

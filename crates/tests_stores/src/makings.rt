@@ -66,55 +66,66 @@ fn made_stores() -> Result<(), Fail> {
     check_made(33, 1)
 }
 
-// A table that is no rearrangement is refused, and a mount made with it shows the gate unaltered.
-fn check_refused_table(table: &[u8]) -> Result<(), Fail> {
-    let mut records = [JUNK; 2];
-    let mut store: PlainStore<Toffoli> = PlainStore::new(&mut records, 3);
-    check_eq(numbered(store.insert(0, GATE)), Ok(()))?;
+// A table that is no rearrangement of three lines is refused, and a mount made with it shows the gate unaltered.
+fn check_refused_table<S: Store + Drop>(store: S, table: &[u8]) -> Result<S, Fail> {
     check_eq(numbered(check_table(&store, table)), Err(1))?;
     let mount = Renamed::new(store, table);
-    check_eq(numbered(mount.read(0)), Ok(GATE))
+    check_eq(numbered(mount.read(0)), Ok(GATE))?;
+    Ok(mount.into_below())
+}
+
+// Tables for an empty store of three lines.
+fn check_tables<S: Store + Drop>(store: S) -> Result<(), Fail> {
+    let mut store = store;
+    check_eq(numbered(store.insert(0, GATE)), Ok(()))?;
+    let store = check_refused_table(store, &[])?;
+    let store = check_refused_table(store, &[0, 1])?;
+    let store = check_refused_table(store, &[0, 1, 2, 3])?;
+    let store = check_refused_table(store, &[0, 1, 3])?;
+    let store = check_refused_table(store, &[1, 2, 1])?;
+    check_eq(numbered(check_table(&store, &[1, 2, 0])), Ok(()))?;
+    check_eq(numbered(Renamed::new(store, &[1, 2, 0]).read(0)), Ok(MOVED))
 }
 
 #[test]
 fn line_tables() -> Result<(), Fail> {
-    check_refused_table(&[])?;
-    check_refused_table(&[0, 1])?;
-    check_refused_table(&[0, 1, 2, 3])?;
-    check_refused_table(&[0, 1, 3])?;
-    check_refused_table(&[1, 2, 1])?;
     let mut records = [JUNK; 2];
-    let mut store: PlainStore<Toffoli> = PlainStore::new(&mut records, 3);
-    check_eq(numbered(store.insert(0, GATE)), Ok(()))?;
-    check_eq(numbered(check_table(&store, &[1, 2, 0])), Ok(()))?;
-    let mount = Renamed::new(store, &[1, 2, 0]);
-    check_eq(numbered(mount.read(0)), Ok(MOVED))
+    check_tables::<PlainStore<Toffoli>>(PlainStore::new(&mut records, 3))
 }
 
-// The window from one place to another on a list of three gates is accepted or not, and shows so many gates.
-fn check_made_window(
+// The window from one place to another is accepted or not, and shows so many gates.
+fn check_made_window<S: Store + Drop>(
+    store: S,
     from: usize,
     to: usize,
     answer: Result<(), u8>,
     count: usize,
-) -> Result<(), Fail> {
-    let mut records = [JUNK; 4];
-    let mut store: GapStore<Toffoli> = GapStore::new(&mut records, 3);
+) -> Result<S, Fail> {
+    check_eq(numbered(check_window(&store, from, to)), answer)?;
+    let window = Window::new(store, from, to);
+    check_eq(window.count(), count)?;
+    Ok(window.into_below())
+}
+
+// Windows on an empty store of three lines, when it has three gates.
+fn check_windows<S: Store + Drop>(store: S) -> Result<(), Fail> {
+    let mut store = store;
     for _ in 0..3u32 {
         check_eq(numbered(store.insert(0, GATE)), Ok(()))?;
     }
-    check_eq(numbered(check_window(&store, from, to)), answer)?;
-    check_eq(Window::new(store, from, to).count(), count)
+    let store = check_made_window(store, 0, 3, Ok(()), 3)?;
+    let store = check_made_window(store, 1, 3, Ok(()), 2)?;
+    let store = check_made_window(store, 3, 3, Ok(()), 0)?;
+    let store = check_made_window(store, 2, 1, Err(9), 3)?;
+    let store = check_made_window(store, 0, 4, Err(9), 3)?;
+    let store = check_made_window(store, 4, 4, Err(9), 3)?;
+    check_eq(store.count(), 3)
 }
 
 #[test]
 fn windows() -> Result<(), Fail> {
-    check_made_window(0, 3, Ok(()), 3)?;
-    check_made_window(1, 3, Ok(()), 2)?;
-    check_made_window(3, 3, Ok(()), 0)?;
-    check_made_window(2, 1, Err(9), 3)?;
-    check_made_window(0, 4, Err(9), 3)?;
-    check_made_window(4, 4, Err(9), 3)
+    let mut records = [JUNK; 4];
+    check_windows::<GapStore<Toffoli>>(GapStore::new(&mut records, 3))
 }
 
 // A store that is lent 4,100 records takes 4,096 gates.

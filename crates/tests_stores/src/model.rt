@@ -65,7 +65,8 @@ impl Model {
         if !K::is_formed(gate) {
             return Err(2);
         }
-        if self.count >= self.capacity {
+        let count = self.count;
+        if count >= self.capacity {
             return Err(3);
         }
         let before = *self;
@@ -73,20 +74,21 @@ impl Model {
             self.gates[at + 1] = before.gates[at];
         }
         self.put(place, gate);
-        self.count += 1;
+        self.count = count + 1;
         Ok(())
     }
 
     // Removing a place: the gate, or 9.
     pub fn remove(&mut self, place: usize) -> Result<Gate, u8> {
-        if place >= self.count {
+        let count = self.count;
+        if place >= count {
             return Err(9);
         }
         let before = *self;
         for at in place..63 {
             self.gates[at] = before.gates[at + 1];
         }
-        self.count -= 1;
+        self.count = count - 1;
         Ok(before.at(place))
     }
 

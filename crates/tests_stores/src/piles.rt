@@ -82,9 +82,9 @@ fn check_window_in_window<S: Store + Drop, K: TestKind>(
 fn check_piles<S: Store + Drop, K: TestKind>(store: S) -> Result<(), Fail> {
     let mut model = Model::new(RECORDS);
     check_same(&store, &model)?;
-    let store = check_window_on_top::<S, K>(store, &mut model).note("on top")?;
-    let store = check_window_between::<S, K>(store, &mut model).note("between")?;
-    let store = check_window_in_window::<S, K>(store, &mut model).note("in a window")?;
+    let store = check_window_on_top::<S, K>(store, &mut model)?;
+    let store = check_window_between::<S, K>(store, &mut model)?;
+    let store = check_window_in_window::<S, K>(store, &mut model)?;
     drop(store);
     Ok(())
 }

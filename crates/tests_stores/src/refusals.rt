@@ -1,6 +1,5 @@
 // The order of refusals, on each store and mount: 9, then 2, then 3.
 use crate::drive::*;
-use crate::kinds::*;
 use crate::model::*;
 use gates::Gate;
 use gates::GateDebug;
