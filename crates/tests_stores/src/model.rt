@@ -37,14 +37,6 @@ impl Model {
         }
     }
 
-    // Reading a place: the gate, or 9.
-    pub fn read(&self, place: usize) -> Result<Gate, u8> {
-        if place >= self.count {
-            return Err(9);
-        }
-        Ok(self.at(place))
-    }
-
     // Overwriting a place: 9, then 2.
     pub fn overwrite<K: TestKind>(&mut self, place: usize, gate: Gate) -> Result<(), u8> {
         if place >= self.count {
