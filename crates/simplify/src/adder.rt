@@ -34,3 +34,14 @@ pub const ADDER: [Gate; 4] = [
         negative: 0,
     },
 ];
+
+// Line 0 becomes line 3, line 1 line 0, line 2 line 1 and line 3 line 2.
+pub const TABLE: [u8; 4] = [3, 0, 1, 2];
+
+// `t 0 -3`, a gate that is put in between.
+pub const EXTRA: Gate = Gate {
+    a: 0,
+    b: 0,
+    positive: 0,
+    negative: 0b1000,
+};
