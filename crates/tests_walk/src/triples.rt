@@ -39,8 +39,8 @@ pub impl Problem for Triples as TriplesProblem {
         (self.total as usize + 1).min(4096)
     }
 
-    fn start(&self, first: usize) -> u16 {
-        (self.total as usize).saturating_sub(first) as u16
+    fn start(&self, first: u16) -> u16 {
+        self.total.saturating_sub(first)
     }
 
     fn blank(&self) -> u16 {

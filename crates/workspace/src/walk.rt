@@ -44,7 +44,7 @@ pub trait Problem {
         ensures few { λ r. ⌜ r ≤ number-limit ⌝ };
 
     // The note of a first number.
-    fn start(&self, first: usize) -> Self::Start
+    fn start(&self, first: u16) -> Self::Start
         ensures { λ r. ⌜ started (now (self .entry)) first r ⌝ };
 
     // The note of the prefix of no numbers.
@@ -151,8 +151,9 @@ fn search<Q: Problem, P: Policy>(
     let end = problem.starts();
     let root = Key::new();
     let blank = problem.blank();
-    for first in from.min(end)..end {
-        let key = root.with(first as u16);
+    for place in from.min(end)..end {
+        let first = place as u16;
+        let key = root.with(first);
         let start = problem.start(first);
         let note = problem.note(&start, &blank, &key);
         if descend(problem, policy, taken, &start, &note, &key) {

@@ -6,9 +6,9 @@ use Rattle.workspace.specs.Policy.{standing}
 use Rattle.workspace.proofs.Steps.{Seen}
 use Rattle.workspace.proofs.walk.search.Given as given
 
-abbrev pub Inv-loop-first : given.InvT-loop-first
-Inv-loop-first g l =
+abbrev pub Inv-loop-place : given.InvT-loop-place
+Inv-loop-place g l =
     let kept = g .P·Policy .kept in
     StartsFrom (Passes (g .Q·Problem .test (l .problem))) (l .from)
     → Seen (g .P·Policy .rule) (g .Q·Problem .view (l .problem)) (g .Q·Problem .test (l .problem)) number-limit 23 []
-    (standing false (kept (l .entry .policy)) (held (l .entry .taken))) (l .first) (standing false (kept (l .policy)) (held (l .taken)))
+    (standing false (kept (l .entry .policy)) (held (l .entry .taken))) (l .place) (standing false (kept (l .policy)) (held (l .taken)))
