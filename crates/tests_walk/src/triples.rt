@@ -27,7 +27,7 @@ pub impl Problem for Triples as TriplesProblem {
 
     ghost decides = { λ s. decides-triple (s .total) };
 
-    ghost fits = { λ s. triple-fits (s .total) };
+    ghost formed = { λ s. triple-fits (s .total) };
 
     ghost view = { λ _. triple-view };
 

@@ -9,7 +9,8 @@ use Rattle.std.specs.declared.option.Option.{Option}
 use Rattle.std.specs.declared.option.Option.the-variants.{Some, None}
 use Rattle.gates.specs.Lines.{bit}
 use Rattle.workspace.specs.declared.policy.Shown.{Shown}
-use Rattle.workspace.specs.Keys.{key-size, number-limit, Shown-in}
+use Rattle.workspace.specs.declared.walk.Found.{Found}
+use Rattle.workspace.specs.Keys.{key-size, number-limit, keyed, Shown-in}
 use Rattle.workspace.specs.Policy.{PolicyMeaning, Standing, scan, opening, chosen}
 
 -- what passes the test has 1 to `most` numbers, each below `limit`
@@ -68,6 +69,18 @@ listed test limit (suc left) prefix = alone test prefix ++ row limit (λ v. list
 abbrev pub shown-under : PolicyMeaning → (List ℕ → Shown) → (List ℕ → Bool) → List ℕ → Standing (List ℕ) → Standing (List ℕ)
 shown-under rule view test prefix before = scan rule view before (listed test number-limit (key-size - length prefix) prefix)
 
+-- the least first number of the keys that satisfy P
+pub record Lowest (P : List ℕ → Type 0) (low : ℕ) : Type 0 where
+  pub below : StartsFrom P low
+  pub rest : List ℕ
+  pub there : P (low ∷ rest)
+
+-- what a search leaves that began with the policy cleared: the key taken, what the policy keeps, and where the first key was found
+pub record Searched (test : List ℕ → Bool) (view : List ℕ → Shown) (rule : PolicyMeaning) (taken : Option (List ℕ)) (kept : List ℕ) (lowest : ℕ) : Type 0 where
+  pub takes : taken ≡ chosen rule view (listed test number-limit key-size [])
+  pub keeps : kept ≡ scan rule view (opening rule) (listed test number-limit key-size []) .kept
+  pub low : (k : List ℕ) → taken ≡ Some k → Lowest (Passes test) lowest
+
 -- the answer of a search, and what the policy keeps then
 pub record Chosen (Occurs : List ℕ → Type 0) (view : List ℕ → Shown) (rule : PolicyMeaning) (answer : Option (List ℕ)) (kept : List ℕ) : Type 0 where
   -- there is one list of all that occurs, in rank order
@@ -81,3 +94,13 @@ pub record Chosen (Occurs : List ℕ → Type 0) (view : List ℕ → Shown) (ru
   pub none : answer ≡ None → os ≡ []
   pub nothing : os ≡ [] → answer ≡ None
   pub occurs : (k : List ℕ) → answer ≡ Some k → Occurs k
+
+-- the numbers of the key that was found, if one was
+abbrev pub found-key : Option Found → Option (List ℕ)
+found-key None = None
+found-key (Some found) = Some (keyed (found .key))
+
+-- with what was found comes the least first number of the keys that satisfy P
+abbrev pub FoundLowest : (List ℕ → Type 0) → Option Found → Type 0
+FoundLowest P None = Unit {0}
+FoundLowest P (Some found) = Lowest P (found .lowest)

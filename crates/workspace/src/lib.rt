@@ -9,5 +9,6 @@ pub use key::Key;
 pub use policy::Policy;
 pub use policy::Reply;
 pub use policy::Shown;
+pub use walk::Found;
 pub use walk::Problem;
 pub use walk::choose;

@@ -1,15 +1,23 @@
-use mathlib.Core.Path.{_≡_, refl, ap, _∙_}
+use mathlib.Core.Path.{_≡_, refl, ap, sym, subst, _∙_}
+use mathlib.Core.Bool.{false}
 use mathlib.Core.List.{List, [], _∷_}
-use Prim.Native.Nat.{ℕ, _+_, _<_, _≤_}
+use Prim.Native.Nat.{ℕ, _+_, _≤_}
 use native.Mathlib.Omega.{arith}
-use Rattle.workspace.specs.Keys.{number-limit, keyed, with-number}
+use Rattle.std.specs.declared.option.Option.the-variants.{None}
+use Rattle.workspace.specs.Keys.{number-limit, keyed, held, with-number}
+use Rattle.workspace.specs.Policy.{standing}
+use Rattle.workspace.proofs.Choosing.{Found-by, found-none, held-none, found-first, found-before, searched}
 use Rattle.workspace.proofs.Numbers.{left-less, fits-first}
 use Rattle.workspace.proofs.Steps.{seen-start, seen-skip, seen-more, seen-closed, seen-done}
 use Rattle.workspace.proofs.walk.search.Needs as need
+use Rattle.workspace.proofs.walk.search.Needs.{then-is-none, else-is-none}
 
 pub loop-place-holds : need.loop-place-holds
-loop-place-holds g c from =
-    seen-skip _ _ _ _ _ [] _ 0 _ _ (omega arith) (λ v _ l rest p. omega (arith, from v rest p)) (seen-start _ _ _ _ _ [] _)
+loop-place-holds g c from = (
+  ap (λ (n : List ℕ). standing false n None) (c .clear .ensures)
+      ∙ seen-skip _ _ _ _ _ [] _ 0 _ _ (omega arith) (λ v _ l rest p. omega (arith, from v rest p)) (seen-start _ _ _ _ _ [] _),
+  found-none _ _ (λ v rest p. omega (arith, from v rest p)),
+)
 
 pub descend-requires : need.descend-requires
 descend-requires g c κs =
@@ -19,19 +27,37 @@ descend-requires g c κs =
 pub returns-then-descend : need.returns-then-descend
 returns-then-descend g c from =
     let first = c .loop-place .place in
+    let s = c .args .problem .now in
+    let inv = c .loop-place .inv from in
     let put : keyed (c .with-key .result) ≡ first ∷ [] = c .with-key .ensures ∙ ap (λ (k : List ℕ). with-number k first) (c .new-root .ensures) in
     let below : first + 1 ≤ number-limit = omega arith in
-    seen-closed _ _ _ _ _ [] _ _ (g .Q·Problem .fits (c .args .problem .now) .some) refl (first + 1) _ _ below
-    (seen-more _ _ _ _ _ [] _ first _ (c .loop-place .inv from) _ put _ (left-less [] _ first put) _ (c .if-descend .ensures tt))
+    let By : ℕ → Type 0 = λ n. Found-by (g .Q·Problem .test s) n (held (c .descend .last .taken)) in
+    searched _ _ _ _ _ _ _
+    (seen-closed _ _ _ _ _ [] _ _ (g .Q·Problem .formed s .some) refl (first + 1) _ _ below (seen-more _ _ _ _ _ [] _ first _ (inv .0) _ put _ (left-less [] _ first put) _ (c .if-descend .ensures tt)))
+    (elim (c .if-is-none .came) [
+      | then-is-none w ↦ subst By (sym (w .lowest-is)) (found-first _ _ _ number-limit 23 first _ (g .P·Policy·met .«takes_first») (g .Q·Problem .formed s) (inv .0) (held-none _ (w .if-is-none .ensures tt)) _ _ put _ (left-less [] _ first put) (c .if-descend .ensures tt))
+      | else-is-none w ↦ subst By (sym (w .lowest-is)) (found-before _ _ _ _ (w .if-is-none .ensures tt) (inv .1))
+    ])
 
 pub loop-place-again : need.loop-place-again
 loop-place-again g c from =
     let first = c .loop-place .place in
+    let s = c .args .problem .now in
+    let inv = c .loop-place .inv from in
     let put : keyed (c .with-key .result) ≡ first ∷ [] = c .with-key .ensures ∙ ap (λ (k : List ℕ). with-number k first) (c .new-root .ensures) in
-    seen-more _ _ _ _ _ [] _ first _ (c .loop-place .inv from) _ put _ (left-less [] _ first put) _ (c .if-descend .ensures tt)
+    let By : ℕ → Type 0 = λ n. Found-by (g .Q·Problem .test s) n (held (c .descend .last .taken)) in (
+      seen-more _ _ _ _ _ [] _ first _ (inv .0) _ put _ (left-less [] _ first put) _ (c .if-descend .ensures tt),
+      elim (c .if-is-none .came) [
+        | then-is-none w ↦ subst By (sym (w .lowest-is)) (found-first _ _ _ number-limit 23 first _ (g .P·Policy·met .«takes_first») (g .Q·Problem .formed s) (inv .0) (held-none _ (w .if-is-none .ensures tt)) _ _ put _ (left-less [] _ first put) (c .if-descend .ensures tt))
+        | else-is-none w ↦ subst By (sym (w .lowest-is)) (found-before _ _ _ _ (w .if-is-none .ensures tt) (inv .1))
+      ],
+    )
 
 pub returns : need.returns
 returns g c from =
+    let inv = c .loop-place .inv from in
     let most : c .loop-place .place ≤ number-limit = omega arith in
-    seen-done _ _ _ _ _ [] _ _ (g .Q·Problem .fits (c .args .problem .now) .some) refl (c .loop-place .place) _ most
-    (λ v l _ rest p. omega (arith, c .starts-end .ensures .covers v rest p, c .loop-place-test .left)) (c .loop-place .inv from)
+    searched _ _ _ _ _ _ _
+    (seen-done _ _ _ _ _ [] _ _ (g .Q·Problem .formed (c .args .problem .now) .some) refl (c .loop-place .place) _ most
+    (λ v l _ rest p. omega (arith, c .starts-end .ensures .covers v rest p, c .loop-place-test .left)) (inv .0))
+    (inv .1)
