@@ -21,13 +21,15 @@ pub impl Problem for Triples as TriplesProblem {
     // What all numbers leave of the total.
     type Note = u16;
 
+    ghost sound = { λ _. Unit {0} };
+
     ghost occurring = { λ s. Triple (s .total) };
 
     ghost test = { λ s. triple? (s .total) };
 
-    ghost decides = { λ s. decides-triple (s .total) };
+    ghost decides = { λ s _. decides-triple (s .total) };
 
-    ghost formed = { λ s. triple-fits (s .total) };
+    ghost formed = { λ s _. triple-fits (s .total) };
 
     ghost view = { λ _. triple-view };
 

@@ -40,16 +40,17 @@ abbrev pub Whole : (List ℕ → Bool) → List ℕ → Bool → Type 0
 Whole test prefix true = (v : ℕ) (rest : List ℕ) → test (prefix ++ v ∷ rest) ≡ true → ⊥
 Whole test prefix false = test prefix ≡ false
 
--- a key has a number, and two notes are right, one of its first number and one of the whole key
-pub record Fits {X Y : Type 0} (started : ℕ → X → Type 0) (noted : List ℕ → Y → Type 0) (k : List ℕ) (start : X) (note : Y) : Type 0 where
+-- what a step of the search may rely on: what is searched is sound, the key has a number, and two notes are right, one of its first number and one of all its numbers
+pub record Fits {X Y : Type 0} (Sound : Type 0) (started : ℕ → X → Type 0) (noted : List ℕ → Y → Type 0) (k : List ℕ) (start : X) (note : Y) : Type 0 where
+  pub sound : Sound
   pub some : 0 < length k
   pub first : started (getD k 0 0) start
   pub whole : noted k note
 
--- a note for a key of one number more than one of which the note above is right
-abbrev pub Noted-next : {X Y : Type 0} → (ℕ → X → Type 0) → (List ℕ → Y → Type 0) → List ℕ → X → Y → Y → Type 0
-Noted-next started noted k start above note =
-    (prefix : List ℕ) (v : ℕ) → k ≡ prefix ++ v ∷ [] → started (getD k 0 0) start → noted prefix above → noted k note
+-- a note is right for a key of one number more than one of which the note above is right
+abbrev pub Noted-next : {X Y : Type 0} → Type 0 → (ℕ → X → Type 0) → (List ℕ → Y → Type 0) → List ℕ → X → Y → Y → Type 0
+Noted-next Sound started noted k start above note =
+    Sound → (prefix : List ℕ) (v : ℕ) → k ≡ prefix ++ v ∷ [] → started (getD k 0 0) start → noted prefix above → noted k note
 
 -- f 0, f 1, .. f (n - 1), one after another
 unfoldable pub row : ℕ → (ℕ → List (List ℕ)) → List (List ℕ)
