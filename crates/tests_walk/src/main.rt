@@ -15,7 +15,7 @@ use triples::Triples;
 use triples::TriplesProblem;
 use workspace::Policy;
 
-// Searches for triples of that total, and prints what the policy singles out.
+// Searches for triples of that total, and prints what the policy singles out and where the search first found one.
 fn print_choice<P: Policy>(
     rt: &LibcRuntime,
     name: &str,
@@ -26,11 +26,12 @@ fn print_choice<P: Policy>(
     let problem = Triples { total };
     match workspace::choose(&problem, policy, from) {
         None => println!(rt, "{name} {total}: none"),
-        Some(key) => {
-            let a = key.at(0);
-            let b = key.at(1);
-            let c = key.at(2);
-            println!(rt, "{name} {total}: {a} {b} {c}")
+        Some(found) => {
+            let a = found.key.at(0);
+            let b = found.key.at(1);
+            let c = found.key.at(2);
+            let lowest = found.lowest;
+            println!(rt, "{name} {total}: {a} {b} {c} of {lowest} and on")
         }
     }
 }

@@ -21,13 +21,15 @@ pub impl Problem for Triples as TriplesProblem {
     // What all numbers leave of the total.
     type Note = u16;
 
+    ghost sound = { λ _. Unit {0} };
+
     ghost occurring = { λ s. Triple (s .total) };
 
     ghost test = { λ s. triple? (s .total) };
 
-    ghost decides = { λ s. decides-triple (s .total) };
+    ghost decides = { λ s _. decides-triple (s .total) };
 
-    ghost fits = { λ s. triple-fits (s .total) };
+    ghost formed = { λ s _. triple-fits (s .total) };
 
     ghost view = { λ _. triple-view };
 
@@ -39,8 +41,8 @@ pub impl Problem for Triples as TriplesProblem {
         (self.total as usize + 1).min(4096)
     }
 
-    fn start(&self, first: usize) -> u16 {
-        (self.total as usize).saturating_sub(first) as u16
+    fn start(&self, first: u16) -> u16 {
+        self.total.saturating_sub(first)
     }
 
     fn blank(&self) -> u16 {

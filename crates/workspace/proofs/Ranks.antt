@@ -157,6 +157,11 @@ shown-listed test most limit (suc left) prefix fits e =
     (λ v _. shown-listed test most limit left (prefix ++ v ∷ []) fits (omega (arith, length-append prefix (v ∷ []))))
     (λ v rest p. small-at limit prefix v rest (fits .small (prefix ++ v ∷ rest) p))
 
+-- each key that passes and begins below `base` is in the first row
+pub in-first-row : (test : List ℕ → Bool) (limit left base v : ℕ) (rest : List ℕ) → FitsKey test (suc left) limit → v < base → Passes test (v ∷ rest) → In (v ∷ rest) (row base (λ u. listed test limit left (u ∷ [])))
+in-first-row test limit left base v rest fits l p =
+    in-row (λ u. listed test limit left (u ∷ [])) base v (v ∷ rest) l (shown-listed test (suc left) limit left (v ∷ []) fits (omega arith) .all (v ∷ rest) (rest, refl) p)
+
 -- another property of the same keys
 pub shown-like : (P Q : List ℕ → Type 0) (prefix : List ℕ) (os : List (List ℕ)) → ((k : List ℕ) → P k → Q k) → ((k : List ℕ) → Q k → P k) → Shown-in P prefix os → Shown-in Q prefix os
 shown-like P Q prefix os to from s = record { ascending = s .ascending; each = λ k i. (s .each k i .0, to k (s .each k i .1)); all = λ k b q. s .all k b (from k q) }

@@ -78,6 +78,10 @@ module _ {X : Type 0} (rule : PolicyMeaning) (view : X → Shown) where
   unfolding scan
   nothing-of-none xs e = ap (λ (ys : List X). chosen rule view ys) e
 
-  -- what is chosen has what all of the list have
+  -- what is taken of a list, where nothing was taken before, has what all of the list have
+  pub scan-has : (P : X → Type 0) (s : Standing X) (xs : List X) (x : X) → s .taken ≡ None → All P xs → scan rule view s xs .taken ≡ Some x → P x
+  scan-has P s xs x none a e =
+      scan-keeps (λ o. o ≡ Some x → P x) P (λ y p said. let same : y ≡ x = cc in subst P same p) s xs (λ said. absurd (let z : _≡_ {A = ℕ} 0 1 = cc in let w : ⊥ = omega arith in w)) a e
+
   pub chosen-has : (P : X → Type 0) (xs : List X) (x : X) → All P xs → chosen rule view xs ≡ Some x → P x
-  chosen-has P xs x a e = scan-keeps (λ o. o ≡ Some x → P x) P (λ y p said. let same : y ≡ x = cc in subst P same p) (opening rule) xs (λ none. absurd (let z : _≡_ {A = ℕ} 0 1 = cc in let w : ⊥ = omega arith in w)) a e
+  chosen-has P xs x a e = scan-has P (opening rule) xs x refl a e

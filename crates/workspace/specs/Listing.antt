@@ -9,7 +9,8 @@ use Rattle.std.specs.declared.option.Option.{Option}
 use Rattle.std.specs.declared.option.Option.the-variants.{Some, None}
 use Rattle.gates.specs.Lines.{bit}
 use Rattle.workspace.specs.declared.policy.Shown.{Shown}
-use Rattle.workspace.specs.Keys.{key-size, number-limit, Shown-in}
+use Rattle.workspace.specs.declared.walk.Found.{Found}
+use Rattle.workspace.specs.Keys.{key-size, number-limit, keyed, Shown-in}
 use Rattle.workspace.specs.Policy.{PolicyMeaning, Standing, scan, opening, chosen}
 
 -- what passes the test has 1 to `most` numbers, each below `limit`
@@ -39,16 +40,17 @@ abbrev pub Whole : (List ℕ → Bool) → List ℕ → Bool → Type 0
 Whole test prefix true = (v : ℕ) (rest : List ℕ) → test (prefix ++ v ∷ rest) ≡ true → ⊥
 Whole test prefix false = test prefix ≡ false
 
--- a key has a number, and two notes are right, one of its first number and one of the whole key
-pub record Fits {X Y : Type 0} (started : ℕ → X → Type 0) (noted : List ℕ → Y → Type 0) (k : List ℕ) (start : X) (note : Y) : Type 0 where
+-- what a step of the search may rely on: what is searched is sound, the key has a number, and two notes are right, one of its first number and one of all its numbers
+pub record Fits {X Y : Type 0} (Sound : Type 0) (started : ℕ → X → Type 0) (noted : List ℕ → Y → Type 0) (k : List ℕ) (start : X) (note : Y) : Type 0 where
+  pub sound : Sound
   pub some : 0 < length k
   pub first : started (getD k 0 0) start
   pub whole : noted k note
 
--- a note for a key of one number more than one of which the note above is right
-abbrev pub Noted-next : {X Y : Type 0} → (ℕ → X → Type 0) → (List ℕ → Y → Type 0) → List ℕ → X → Y → Y → Type 0
-Noted-next started noted k start above note =
-    (prefix : List ℕ) (v : ℕ) → k ≡ prefix ++ v ∷ [] → started (getD k 0 0) start → noted prefix above → noted k note
+-- a note is right for a key of one number more than one of which the note above is right
+abbrev pub Noted-next : {X Y : Type 0} → Type 0 → (ℕ → X → Type 0) → (List ℕ → Y → Type 0) → List ℕ → X → Y → Y → Type 0
+Noted-next Sound started noted k start above note =
+    Sound → (prefix : List ℕ) (v : ℕ) → k ≡ prefix ++ v ∷ [] → started (getD k 0 0) start → noted prefix above → noted k note
 
 -- f 0, f 1, .. f (n - 1), one after another
 unfoldable pub row : ℕ → (ℕ → List (List ℕ)) → List (List ℕ)
@@ -68,6 +70,18 @@ listed test limit (suc left) prefix = alone test prefix ++ row limit (λ v. list
 abbrev pub shown-under : PolicyMeaning → (List ℕ → Shown) → (List ℕ → Bool) → List ℕ → Standing (List ℕ) → Standing (List ℕ)
 shown-under rule view test prefix before = scan rule view before (listed test number-limit (key-size - length prefix) prefix)
 
+-- the least first number of the keys that satisfy P
+pub record Lowest (P : List ℕ → Type 0) (low : ℕ) : Type 0 where
+  pub below : StartsFrom P low
+  pub rest : List ℕ
+  pub there : P (low ∷ rest)
+
+-- what a search leaves that began with the policy cleared: the key taken, what the policy keeps, and where the first key was found
+pub record Searched (test : List ℕ → Bool) (view : List ℕ → Shown) (rule : PolicyMeaning) (taken : Option (List ℕ)) (kept : List ℕ) (lowest : ℕ) : Type 0 where
+  pub takes : taken ≡ chosen rule view (listed test number-limit key-size [])
+  pub keeps : kept ≡ scan rule view (opening rule) (listed test number-limit key-size []) .kept
+  pub low : (k : List ℕ) → taken ≡ Some k → Lowest (Passes test) lowest
+
 -- the answer of a search, and what the policy keeps then
 pub record Chosen (Occurs : List ℕ → Type 0) (view : List ℕ → Shown) (rule : PolicyMeaning) (answer : Option (List ℕ)) (kept : List ℕ) : Type 0 where
   -- there is one list of all that occurs, in rank order
@@ -81,3 +95,13 @@ pub record Chosen (Occurs : List ℕ → Type 0) (view : List ℕ → Shown) (ru
   pub none : answer ≡ None → os ≡ []
   pub nothing : os ≡ [] → answer ≡ None
   pub occurs : (k : List ℕ) → answer ≡ Some k → Occurs k
+
+-- the numbers of the key that was found, if one was
+abbrev pub found-key : Option Found → Option (List ℕ)
+found-key None = None
+found-key (Some found) = Some (keyed (found .key))
+
+-- with what was found comes the least first number of the keys that satisfy P
+abbrev pub FoundLowest : (List ℕ → Type 0) → Option Found → Type 0
+FoundLowest P None = Unit {0}
+FoundLowest P (Some found) = Lowest P (found .lowest)

@@ -9,9 +9,9 @@ ghost use Rattle.workspace.specs.Keys.{keyed, with-number};
 pub const KEY_SIZE: usize = 24;
 
 // A list of at most `KEY_SIZE` numbers.
-#[derive(Clone, Copy, Debug)]
+#[derive(Clone, Copy)]
 pub struct Key {
-    numbers: [u16; 24],
+    numbers: [u16; KEY_SIZE],
     count: usize,
 }
 
@@ -21,7 +21,7 @@ impl Key {
         ensures { λ r. ⌜ keyed r ≡ [] ⌝ }
     {
         Key {
-            numbers: [0; 24],
+            numbers: [0; KEY_SIZE],
             count: 0,
         }
     }

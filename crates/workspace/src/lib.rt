@@ -41,6 +41,7 @@ pub use template::PositionSet;
 pub use template::Proposal;
 pub use template::Template;
 pub use turn::turn_laws;
+pub use walk::Found;
 pub use walk::Problem;
 pub use walk::choose;
 pub use workspace::Workspace;
