@@ -38,7 +38,8 @@ pub struct GapStore<'a, K> {
 impl<'a, K: GateKind> GapStore<'a, K> {
     // An empty store of so many lines in the lent records, whatever they hold; of 1 line where that is not 1 to 32.
     pub fn new(records: &'a mut [Gate], lines: u8) -> GapStore<'a, K>
-        ensures { λ r. ⌜ gap (r .lines) (now (r .records)) (r .front) (r .back) ≡ gap (made-lines lines) (now (records .entry)) 0 0 ⌝ }
+        ensures holds { λ r. ⌜ now (r .records) ≡ now (records .entry) ⌝ }
+        ensures empty { λ r. ⌜ gap (r .lines) (now (r .records)) (r .front) (r .back) ≡ gap (made-lines lines) (now (records .entry)) 0 0 ⌝ }
     {
         let lines = if 1 <= lines && lines <= 32 { lines } else { 1 };
         GapStore {

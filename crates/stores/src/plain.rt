@@ -32,7 +32,8 @@ pub struct PlainStore<'a, K> {
 impl<'a, K: GateKind> PlainStore<'a, K> {
     // An empty store of so many lines in the lent records, whatever they hold; of 1 line where that is not 1 to 32.
     pub fn new(records: &'a mut [Gate], lines: u8) -> PlainStore<'a, K>
-        ensures { λ r. ⌜ plain (r .lines) (now (r .records)) (r .count) ≡ plain (made-lines lines) (now (records .entry)) 0 ⌝ }
+        ensures holds { λ r. ⌜ now (r .records) ≡ now (records .entry) ⌝ }
+        ensures empty { λ r. ⌜ plain (r .lines) (now (r .records)) (r .count) ≡ plain (made-lines lines) (now (records .entry)) 0 ⌝ }
     {
         let lines = if 1 <= lines && lines <= 32 { lines } else { 1 };
         PlainStore {
