@@ -2,9 +2,11 @@
 use mathlib.Core.Path.{_≡_}
 use mathlib.Core.Bool.{cond, _&&_}
 use mathlib.Core.List.{List, [], _++_}
-use Prim.Native.Nat.{ℕ, _+_, _-_, min}
+use Prim.Native.Nat.{ℕ, _+_, _-_, min, max}
 use lib.Dec.{leb, ltb}
 use lib.ListN.{length, take, drop}
+use Rattle.std.specs.declared.result.Result.{Result}
+use Rattle.std.specs.declared.result.Result.the-variants.{Ok, Err}
 use Rattle.gates.specs.declared.gate.Gate.{Gate}
 use Rattle.gates.specs.Lines.{width}
 use Rattle.stores.specs.Stores.{StoreMeaning, most}
@@ -35,6 +37,15 @@ pub record Gap-moved (lines : ℕ) (records : List Gate) (front back : ℕ) (lin
   pub sum : front′ + back′ ≡ front + back
   pub long : length records′ ≡ length records
   pub on : lines′ ≡ lines
+
+-- how many gates lie between two places
+abbrev pub apart : ℕ → ℕ → ℕ
+apart p q = max p q - min p q
+
+-- how many records the last edit moved: those of this one, or where it is refused, those of the one before
+abbrev pub moved-by : {X E : Type 0} → Result X E → ℕ → ℕ → ℕ
+moved-by (Ok x) these earlier = these
+moved-by (Err e) these earlier = earlier
 
 -- the line count of a store that is made: the one asked for, or 1 where that is not 1 to 32
 abbrev pub made-lines : ℕ → ℕ

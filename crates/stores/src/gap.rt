@@ -10,8 +10,9 @@ ghost use denote.Ref.{now};
 ghost use lib.ListN.{length};
 ghost use mathlib.Core.Path.{_≡_};
 ghost use Prim.Native.Nat.{_+_, _-_, _<_, _≤_, max, min};
-ghost use Rattle.stores.specs.Memory.{Gap-moved, gap, made-lines, record-of};
+ghost use Rattle.stores.specs.Memory.{Gap-moved, apart, gap, made-lines, moved-by, record-of};
 ghost use Rattle.stores.specs.MemoryFacts.{gap-bounded};
+ghost use Rattle.stores.specs.Stores.{after, answer, insert-outcome, remove-outcome};
 
 // What a record holds when its gate has been taken out.
 const CLEARED: Gate = Gate {
@@ -28,6 +29,7 @@ pub struct GapStore<'a, K> {
     front: usize,
     back: usize,
     lines: u8,
+    moved: usize,
     kind: PhantomData<K>,
     ghost some_line: { 1 ≤ lines },
     ghost few_lines: { lines ≤ 32 },
@@ -39,6 +41,7 @@ impl<'a, K: GateKind> GapStore<'a, K> {
     // An empty store of so many lines in the lent records, whatever they hold; of 1 line where that is not 1 to 32.
     pub fn new(records: &'a mut [Gate], lines: u8) -> GapStore<'a, K>
         ensures holds { λ r. ⌜ now (r .records) ≡ now (records .entry) ⌝ }
+        ensures unmoved { λ r. ⌜ r .moved ≡ 0 ⌝ }
         ensures empty { λ r. ⌜ gap (r .lines) (now (r .records)) (r .front) (r .back) ≡ gap (made-lines lines) (now (records .entry)) 0 0 ⌝ }
     {
         let lines = if 1 <= lines && lines <= 32 { lines } else { 1 };
@@ -47,8 +50,16 @@ impl<'a, K: GateKind> GapStore<'a, K> {
             front: 0,
             back: 0,
             lines,
+            moved: 0,
             kind: PhantomData,
         }
+    }
+
+    // How many records were moved by the last insert or removal that was not refused.
+    pub fn records_moved(&self) -> usize
+        ensures value { λ r. ⌜ r ≡ now (self .entry) .moved ⌝ }
+    {
+        self.moved // 0 until the first
     }
 
     // The record that holds the gate at a place of the list.
@@ -106,7 +117,7 @@ impl<'a, K: GateKind> GapStore<'a, K> {
         requires { ⌜ place ≤ now self .front + now self .back ⌝ }
         ensures keeps { λ _. ⌜ Gap-moved (now (self .entry) .lines) (now (now (self .entry) .records)) (now (self .entry) .front) (now (self .entry) .back) (now (self .exit) .lines) (now (now (self .exit) .records)) (now (self .exit) .front) (now (self .exit) .back) ⌝ }
         ensures front { λ _. ⌜ now (self .exit) .front ≡ place ⌝ }
-        ensures moved { λ r. ⌜ r ≡ max (now (self .entry) .front) place - min (now (self .entry) .front) place ⌝ }
+        ensures moved { λ r. ⌜ r ≡ apart (now (self .entry) .front) place ⌝ }
     {
         if place < self.front {
             self.lower_gap(place)
@@ -116,6 +127,7 @@ impl<'a, K: GateKind> GapStore<'a, K> {
     }
 }
 
+// Beside what every store promises: an insert or a removal moves as many records as lie between the gap and its place, each once.
 pub impl<K: GateKind> Store for GapStore<'_, K> as GapStoreStore {
     type Kind = K;
 
@@ -155,7 +167,11 @@ pub impl<K: GateKind> Store for GapStore<'_, K> as GapStoreStore {
         Ok(())
     }
 
-    fn insert(&mut self, place: usize, gate: Gate) -> Result<(), StoreRefusal> {
+    fn insert(&mut self, place: usize, gate: Gate) -> Result<(), StoreRefusal>
+        ensures answers { λ r. ⌜ r ≡ answer (insert-outcome (K·GateKind .means) (gap (now (self .entry) .lines) (now (now (self .entry) .records)) (now (self .entry) .front) (now (self .entry) .back)) place gate) ⌝ }
+        ensures leaves { λ _. ⌜ gap (now (self .exit) .lines) (now (now (self .exit) .records)) (now (self .exit) .front) (now (self .exit) .back) ≡ after (gap (now (self .entry) .lines) (now (now (self .entry) .records)) (now (self .entry) .front) (now (self .entry) .back)) (insert-outcome (K·GateKind .means) (gap (now (self .entry) .lines) (now (now (self .entry) .records)) (now (self .entry) .front) (now (self .entry) .back)) place gate) ⌝ }
+        ensures moves { λ r. ⌜ now (self .exit) .moved ≡ moved-by r (apart (now (self .entry) .front) place) (now (self .entry) .moved) ⌝ }
+    {
         let count = self.count();
         if place > count {
             return Err(StoreRefusal::NoSuchPlace);
@@ -166,15 +182,19 @@ pub impl<K: GateKind> Store for GapStore<'_, K> as GapStoreStore {
         if count >= self.capacity() {
             return Err(StoreRefusal::Full);
         }
-        self.move_gap(place);
+        self.moved = self.move_gap(place);
         self.records[place] = gate;
         self.front = place + 1;
         Ok(())
     }
 
-    fn remove(&mut self, place: usize) -> Result<Gate, StoreRefusal> {
+    fn remove(&mut self, place: usize) -> Result<Gate, StoreRefusal>
+        ensures answers { λ r. ⌜ r ≡ answer (remove-outcome (gap (now (self .entry) .lines) (now (now (self .entry) .records)) (now (self .entry) .front) (now (self .entry) .back)) place) ⌝ }
+        ensures leaves { λ _. ⌜ gap (now (self .exit) .lines) (now (now (self .exit) .records)) (now (self .exit) .front) (now (self .exit) .back) ≡ after (gap (now (self .entry) .lines) (now (now (self .entry) .records)) (now (self .entry) .front) (now (self .entry) .back)) (remove-outcome (gap (now (self .entry) .lines) (now (now (self .entry) .records)) (now (self .entry) .front) (now (self .entry) .back)) place) ⌝ }
+        ensures moves { λ r. ⌜ now (self .exit) .moved ≡ moved-by r (apart (now (self .entry) .front) place) (now (self .entry) .moved) ⌝ }
+    {
         let gate = self.read(place)?;
-        self.move_gap(place);
+        self.moved = self.move_gap(place);
         let freed = self.records.len() - self.back;
         self.records[freed] = CLEARED;
         self.back -= 1;

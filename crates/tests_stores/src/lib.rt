@@ -8,6 +8,8 @@ mod makings;
 #[cfg(test)]
 mod model;
 #[cfg(test)]
+mod moves;
+#[cfg(test)]
 mod piles;
 #[cfg(test)]
 mod refusals;

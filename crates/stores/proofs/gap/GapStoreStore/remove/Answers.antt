@@ -14,8 +14,8 @@ use Rattle.stores.proofs.Outcomes.{read-told, remove-ok}
 use Rattle.stores.proofs.GapEdits.{around-long, gap-removed, gap-cleared}
 use Rattle.stores.proofs.gap.GapStoreStore.remove.Needs as need
 
-pub move-gap-requires : need.move-gap-requires
-move-gap-requires g c κs =
+pub move-gap-self-requires : need.move-gap-self-requires
+move-gap-self-requires g c κs =
     let s = c .args .self .now in
     let xs = s .records .now in
     let m = gap (s .lines) xs (s .front) (s .back) in
@@ -30,7 +30,7 @@ index-self-freed g c =
     let m = gap (s .lines) xs (s .front) (s .back) in
     let long = around-long xs (s .front) (s .back) (s .within) in
     let told = read-told m (c .args .place) (c .in-Continue-gate .gate) (c .in-Continue-gate .ensures tt) in
-    omega (arith, told .0, long, c .move-gap .ensures .keeps .sum, c .move-gap .ensures .front, c .move-gap .last .self .within)
+    omega (arith, told .0, long, c .move-gap-self .ensures .keeps .sum, c .move-gap-self .ensures .front, c .move-gap-self .last .self .within)
 
 pub sub-self : need.sub-self
 sub-self g c =
@@ -39,7 +39,7 @@ sub-self g c =
     let m = gap (s .lines) xs (s .front) (s .back) in
     let long = around-long xs (s .front) (s .back) (s .within) in
     let told = read-told m (c .args .place) (c .in-Continue-gate .gate) (c .in-Continue-gate .ensures tt) in
-    omega (arith, told .0, long, c .move-gap .ensures .keeps .sum, c .move-gap .ensures .front)
+    omega (arith, told .0, long, c .move-gap-self .ensures .keeps .sum, c .move-gap-self .ensures .front)
 
 pub returns : need.returns
 returns g c =
@@ -49,11 +49,11 @@ returns g c =
     let long = around-long xs (s .front) (s .back) (s .within) in
     let told = read-told m (c .args .place) (c .in-Continue-gate .gate) (c .in-Continue-gate .ensures tt) in
     let p = c .args .place in
-    let t = c .move-gap .last .self in
+    let t = c .move-gap-self .last .self in
     let ys = t .records .now in
     let b = t .back - 1 in
-    let keeps = c .move-gap .ensures .keeps in
-    let front = c .move-gap .ensures .front in
+    let keeps = c .move-gap-self .ensures .keeps in
+    let front = c .move-gap-self .ensures .front in
     let ok = remove-ok m p (told .0) in
     let is : suc b ≡ t .back = omega (arith, told .0, long, keeps .sum, front) in
     let fits : p + suc b ≤ length ys = omega (arith, is, t .within, front) in
@@ -70,4 +70,5 @@ returns g c =
           ∙ ap (λ (n : ℕ). removed (around-gap ys p n) p) is
           ∙ ap (λ (r : List Gate). removed r p) list)
           ∙ sym (ap (after m) ok);
+      moves = c .move-gap-self .ensures .moved;
     }
