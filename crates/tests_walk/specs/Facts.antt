@@ -10,7 +10,7 @@ use Rattle.std.specs.shelf.Lists.{All}
 use Rattle.std.specs.Orderings.{Decides}
 use Rattle.std.proofs.shelf.Tests.{false≢true}
 use Rattle.std.proofs.shelf.Ways.{decides-and, decides-ltb, decides-eqb}
-use Rattle.workspace.specs.Listing.{FitsKey}
+use Rattle.search.specs.Listing.{FitsKey}
 use Rattle.tests_walk.specs.Triples.{Triple, triple?}
 
 pub decides-triple : (total : ℕ) (k : List ℕ) → Decides (triple? total k) (Triple total k)

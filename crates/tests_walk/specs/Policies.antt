@@ -5,10 +5,10 @@ use Prim.Native.Nat.{ℕ}
 use lib.Dec.{ltb}
 use Rattle.std.specs.declared.option.Option.{Option}
 use Rattle.std.specs.declared.option.Option.the-variants.{Some, None}
-use Rattle.workspace.specs.declared.policy.Shown.{Shown}
-use Rattle.workspace.specs.declared.policy.Reply.{Reply}
-use Rattle.workspace.specs.declared.policy.Reply.the-variants.{Leave, Take, Close}
-use Rattle.workspace.specs.Policy.{PolicyMeaning}
+use Rattle.search.specs.declared.policy.Shown.{Shown}
+use Rattle.search.specs.declared.policy.Reply.{Reply}
+use Rattle.search.specs.declared.policy.Reply.the-variants.{Leave, Take, Close}
+use Rattle.search.specs.Policy.{PolicyMeaning}
 
 -- closes at the first
 abbrev pub at-once : PolicyMeaning

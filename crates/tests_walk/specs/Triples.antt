@@ -5,7 +5,7 @@ use mathlib.Core.List.{List, [], _∷_}
 use Prim.Native.Nat.{ℕ, _+_, _-_, _<_}
 use lib.Dec.{ltb, eqb}
 use lib.ListN.{getD}
-use Rattle.workspace.specs.declared.policy.Shown.{Shown}
+use Rattle.search.specs.declared.policy.Shown.{Shown}
 
 -- three numbers, the first below 4,096 and the others below 64, with that total
 abbrev pub Triple : ℕ → List ℕ → Type 0

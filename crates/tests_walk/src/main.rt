@@ -10,10 +10,10 @@ use policies::ToTheEnd;
 use policies::ToTheEndPolicy;
 use policies::UntilTwenty;
 use policies::UntilTwentyPolicy;
+use search::Policy;
 use std::io;
 use triples::Triples;
 use triples::TriplesProblem;
-use workspace::Policy;
 
 // Searches for triples of that total, and prints what the policy singles out and where the search first found one.
 fn print_choice<P: Policy>(
@@ -24,7 +24,7 @@ fn print_choice<P: Policy>(
     from: usize,
 ) -> io::Result<()> {
     let problem = Triples { total };
-    match workspace::choose(&problem, policy, from) {
+    match search::choose(&problem, policy, from) {
         None => println!(rt, "{name} {total}: none"),
         Some(found) => {
             let a = found.key.at(0);

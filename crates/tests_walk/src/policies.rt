@@ -1,7 +1,7 @@
 // Policies for the tests.
-use workspace::Policy;
-use workspace::Reply;
-use workspace::Shown;
+use search::Policy;
+use search::Reply;
+use search::Shown;
 ghost use mathlib.Core.List.{[], _∷_};
 ghost use Rattle.tests_walk.specs.Policies.{at-once, best-kept, most-saved, to-the-end, until-twenty};
 

@@ -1,8 +1,8 @@
 // Three numbers that add up to a total: a small problem for the search.
-use workspace::Key;
-use workspace::Problem;
-use workspace::Shown;
-use workspace::candidates;
+use search::Key;
+use search::Problem;
+use search::Shown;
+use search::candidates;
 ghost use mathlib.Core.Path.{_≡_};
 ghost use Prim.Native.Nat.{_-_};
 ghost use Rattle.tests_walk.specs.Facts.{decides-triple, triple-fits};

@@ -2,13 +2,13 @@
 use crate::gate_list::*;
 use gates::Gate;
 use gates::GateKind;
+use search::Earliest;
+use search::EarliestPolicy;
+use search::Policy;
 use std::test::*;
 use stores::PlainStore;
 use stores::PlainStoreStore;
 use stores::Store;
-use workspace::Earliest;
-use workspace::EarliestPolicy;
-use workspace::Policy;
 use workspace::PositionSet;
 use workspace::Proposal;
 use workspace::TemplateRefusal;

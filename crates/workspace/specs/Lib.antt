@@ -4,12 +4,8 @@ pub mod TurnTheorem
 pub mod TemplateTests
 pub mod Refusals
 pub mod Proposals
-pub mod Policy
-pub mod Policies
 pub mod TurnTests
 pub mod Examples
-pub mod Keys
-pub mod Listing
 pub mod Conditions
 pub mod Shelves
 pub mod Occurrences

@@ -1,11 +1,11 @@
 // Calls that change a workspace: a gate more, a template more, a template less.
-use super::Policy;
 use super::Proposal;
 use super::TemplateRefusal;
 use super::Workspace;
 use super::check_proposal;
 use super::shelf::MOST_ENTRIES;
 use gates::Gate;
+use search::Policy;
 use stores::Store;
 use stores::StoreRefusal;
 ghost use mathlib.Core.Path.{_≡_};

@@ -1,8 +1,8 @@
 // The workspace: a store of gates, a shelf of templates and a policy.
-use super::Policy;
 use super::TemplateRefusal;
 use super::shelf::Shelf;
 use gates::Gate;
+use search::Policy;
 use stores::Store;
 use stores::StoreRefusal;
 ghost use lib.ListN.{length};

@@ -6,7 +6,7 @@ use lib.Dec.{eqb, ltb}
 use lib.ListN.{length}
 use Rattle.std.proofs.shelf.Tests.{lt-ltb, eq-eqb}
 use Rattle.gates.specs.Lines.{bit}
-use Rattle.workspace.specs.Keys.{keyed}
+use Rattle.search.specs.Keys.{keyed}
 use Rattle.tests_walk.proofs.Sums.{second, third}
 use Rattle.tests_walk.proofs.triples.TriplesProblem.candidates.Needs as need
 

@@ -1,5 +1,5 @@
 use native.Mathlib.Omega.{arith}
-use Rattle.workspace.specs.Keys.{keyed}
+use Rattle.search.specs.Keys.{keyed}
 use Rattle.tests_walk.proofs.Sums.{no-fourth, too-short}
 use Rattle.tests_walk.proofs.triples.TriplesProblem.is_whole.Needs as need
 

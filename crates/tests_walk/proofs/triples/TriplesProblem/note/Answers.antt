@@ -4,7 +4,7 @@ use Prim.Native.Nat.{ℕ, _-_}
 use native.Mathlib.Omega.{arith}
 use lib.ListN.{length, getD}
 use Rattle.std.proofs.shelf.Lists.{length-push, getD-push}
-use Rattle.workspace.specs.Keys.{keyed}
+use Rattle.search.specs.Keys.{keyed}
 use Rattle.tests_walk.specs.Triples.{sum-of}
 use Rattle.tests_walk.proofs.Sums.{sum-push}
 use Rattle.tests_walk.proofs.triples.TriplesProblem.note.Needs as need

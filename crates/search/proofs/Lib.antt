@@ -1,0 +1,11 @@
+pub mod Scans
+pub mod Singling
+pub mod Numbers
+pub mod NumberSets
+pub mod Rows
+pub mod Ranks
+pub mod Unique
+pub mod Zeros
+pub mod Steps
+pub mod Masks
+pub mod Choosing

@@ -1,0 +1,4 @@
+pub mod Policy
+pub mod Policies
+pub mod Keys
+pub mod Listing
