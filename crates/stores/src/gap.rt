@@ -127,7 +127,7 @@ impl<'a, K: GateKind> GapStore<'a, K> {
     }
 }
 
-// Beside what every store promises: an insert or a removal moves as many records as lie between the gap and its place, each once.
+// Beside what every store promises: the number of moved records that an insert or a removal keeps is that of the gates between the gap and its place.
 pub impl<K: GateKind> Store for GapStore<'_, K> as GapStoreStore {
     type Kind = K;
 
