@@ -10,7 +10,7 @@ use Rattle.gates.specs.Controls.{allows, controls_hold}
 use Rattle.gates.specs.Fredkin.{other, swapped}
 use Rattle.gates.specs.Members.{bit_none, set_ext, every_of, every_at}
 use Rattle.gates.specs.ControlSets.{iff_same}
-use Rattle.gates.proofs.Masks.{bit_and, bit_xor, bit_power}
+use Rattle.gates.proofs.Masks.{bit-bit_and, bit-bit_xor, bit_power}
 
 -- the test of a state against the two sets
 pub hold_test : (p q s : ℕ) → p < 2 ^ width → q < 2 ^ width → (eqb (bit_and s p) p && eqb (bit_and s q) 0) ≡ controls_hold p q (bit s)
@@ -19,12 +19,12 @@ hold_test p q s lp lq = iff_same _ _
     (λ h.
     let both = and_parts _ _ h in
     every_of width _ (λ i lt. to (bit p i) (bit q i) (bit s i)
-    (sym (bit_and s p i) ∙ ap (λ (x : ℕ). bit x i) (eqb-true _ p both.0)) (sym (bit_and s q i) ∙ ap (λ (x : ℕ). bit x i) (eqb-true _ 0 both.1) ∙ bit_none i)))
+    (sym (bit-bit_and s p i) ∙ ap (λ (x : ℕ). bit x i) (eqb-true _ p both.0)) (sym (bit-bit_and s q i) ∙ ap (λ (x : ℕ). bit x i) (eqb-true _ 0 both.1) ∙ bit_none i)))
     (λ h.
     let each = λ (i : ℕ) (lt : i < width). of (bit p i) (bit q i) (bit s i) (every_at width (λ i. allows (bit p i) (bit q i) (bit s i)) h i lt) in
     and_from _ _
-    (eq-eqb _ p (set_ext width (bit_and s p) p (omega (arith, and_le_r s p)) lp (λ i lt. bit_and s p i ∙ (each i lt).0)))
-    (eq-eqb _ 0 (set_ext width (bit_and s q) 0 (omega (arith, and_le_r s q)) (omega arith) (λ i lt. bit_and s q i ∙ (each i lt).1 ∙ sym (bit_none i)))))
+    (eq-eqb _ p (set_ext width (bit_and s p) p (omega (arith, and_le_r s p)) lp (λ i lt. bit-bit_and s p i ∙ (each i lt).0)))
+    (eq-eqb _ 0 (set_ext width (bit_and s q) 0 (omega (arith, and_le_r s q)) (omega arith) (λ i lt. bit-bit_and s q i ∙ (each i lt).1 ∙ sym (bit_none i)))))
   where
     to : (x y v : Bool) → (v && x) ≡ x → (v && y) ≡ false → allows x y v ≡ true
     to true true true e d = sym d
@@ -48,7 +48,7 @@ hold_test p q s lp lq = iff_same _ _
 -- the state with one line inverted
 pub one_inverted : (s a i : ℕ) → a < width → bit (bit_xor s ((1 * 2 ^ a) % 2 ^ width)) i ≡ inverted_if (eqb i a) (bit s i)
 one_inverted s a i lt =
-    ap (λ (x : ℕ). bit (bit_xor s x) i) (one_shl a width lt) ∙ bit_xor s (2 ^ a) i ∙ ap (λ (b : Bool). inverted_if b (bit s i)) (bit_power a i)
+    ap (λ (x : ℕ). bit (bit_xor s x) i) (one_shl a width lt) ∙ bit-bit_xor s (2 ^ a) i ∙ ap (λ (b : Bool). inverted_if b (bit s i)) (bit_power a i)
 
 -- lines of one value are exchanged already
 pub swapped_same : (s a b : ℕ) → bit s a ≡ bit s b → bit s ≡ swapped a b (bit s)

@@ -25,21 +25,21 @@ digits P a b c d x y = at (x % 2) (y % 2) (omega arith) (omega arith)
     at (suc zero) (suc (suc v)) h k = absurd (let z : ⊥ = omega arith in z)
     at (suc (suc u)) v h k = absurd (let z : ⊥ = omega arith in z)
 
-pub bit_and : (a b i : ℕ) → bit (bit_and a b) i ≡ (bit a i && bit b i)
+pub bit-bit_and : (a b i : ℕ) → bit (bit_and a b) i ≡ (bit a i && bit b i)
 unfolding bit
-bit_and a b i =
+bit-bit_and a b i =
     ap (λ (x : ℕ). eqb (x % 2) 1) (and_shr a b i) ∙ ap (λ (x : ℕ). eqb x 1) (and_mod (a / 2 ^ i) (b / 2 ^ i) 1)
     ∙ digits (λ u v. eqb (bit_and u v) 1 ≡ (eqb u 1 && eqb v 1)) refl refl refl refl (a / 2 ^ i) (b / 2 ^ i)
 
-pub bit_or : (a b i : ℕ) → bit (bit_or a b) i ≡ (bit a i || bit b i)
+pub bit-bit_or : (a b i : ℕ) → bit (bit_or a b) i ≡ (bit a i || bit b i)
 unfolding bit
-bit_or a b i =
+bit-bit_or a b i =
     ap (λ (x : ℕ). eqb (x % 2) 1) (or_shr a b i) ∙ ap (λ (x : ℕ). eqb x 1) (or_mod (a / 2 ^ i) (b / 2 ^ i) 1)
     ∙ digits (λ u v. eqb (bit_or u v) 1 ≡ (eqb u 1 || eqb v 1)) refl refl refl refl (a / 2 ^ i) (b / 2 ^ i)
 
-pub bit_xor : (a b i : ℕ) → bit (bit_xor a b) i ≡ inverted_if (bit b i) (bit a i)
+pub bit-bit_xor : (a b i : ℕ) → bit (bit_xor a b) i ≡ inverted_if (bit b i) (bit a i)
 unfolding bit
-bit_xor a b i =
+bit-bit_xor a b i =
     ap (λ (x : ℕ). eqb (x % 2) 1) (xor_shr a b i) ∙ ap (λ (x : ℕ). eqb x 1) (xor_mod (a / 2 ^ i) (b / 2 ^ i) 1)
     ∙ digits (λ u v. eqb (bit_xor u v) 1 ≡ inverted_if (eqb v 1) (eqb u 1)) refl refl refl refl (a / 2 ^ i) (b / 2 ^ i)
 
@@ -92,15 +92,15 @@ shifted_out set lines = at (cases_lt set (2 ^ lines))
 pub none_common : (p q : ℕ) → p < 2 ^ width → eqb (bit_and p q) 0 ≡ apart p q
 unfolding apart
 none_common p q lp = iff_same _ _
-    (λ h. every_of width _ (λ i lt. not_from_false _ (sym (bit_and p q i) ∙ ap (λ (x : ℕ). bit x i) (eqb-true _ 0 h) ∙ bit_none i)))
+    (λ h. every_of width _ (λ i lt. not_from_false _ (sym (bit-bit_and p q i) ∙ ap (λ (x : ℕ). bit x i) (eqb-true _ 0 h) ∙ bit_none i)))
     (λ h. eq-eqb _ 0 (set_ext width (bit_and p q) 0 (omega (arith, and_le_l p q)) (omega arith)
-    (λ i lt. bit_and p q i ∙ not-true _ (every_at width (λ i. not (bit p i && bit q i)) h i lt) ∙ sym (bit_none i))))
+    (λ i lt. bit-bit_and p q i ∙ not-true _ (every_at width (λ i. not (bit p i && bit q i)) h i lt) ∙ sym (bit_none i))))
 
 pub line_added : (set line : ℕ) → set < 2 ^ width → line < width → bit_or set ((1 * 2 ^ line) % 2 ^ width) ≡ with_member line set
 line_added set line ls lt =
     set_ext width _ _ (or_lt width set _ ls (omega (arith, one_shl line width lt, pow_below line width lt))) (where_lt width (λ i. eqb i line || bit set i))
     (λ i il.
-    bit_or set _ i ∙ ap (λ (b : Bool). bit set i || b) (ap (λ (x : ℕ). bit x i) (one_shl line width lt) ∙ bit_power line i) ∙ either (bit set i) (eqb i line)
+    bit-bit_or set _ i ∙ ap (λ (b : Bool). bit set i || b) (ap (λ (x : ℕ). bit x i) (one_shl line width lt) ∙ bit_power line i) ∙ either (bit set i) (eqb i line)
     ∙ sym (bit_where width (λ i. eqb i line || bit set i) i il))
   where
     either : (x y : Bool) → (x || y) ≡ (y || x)
@@ -121,8 +121,8 @@ chosen_exchanged f set other lf ls lo =
     (or_lt width _ _ (let h : bit_and set (2 ^ width - 1 - f) < 2 ^ width = omega (arith, and_le_l set (2 ^ width - 1 - f)) in h) (let h : bit_and other f < 2 ^ width = omega (arith, and_le_l other f) in h))
     (where_lt width (λ i. cond (bit f i) (bit other i) (bit set i)))
     (λ i il.
-    bit_or _ _ i
-    ∙ ap₂ ◌||◌ (bit_and set _ i ∙ ap (λ (b : Bool). bit set i && b) (bit_not width f i lf il)) (bit_and other f i)
+    bit-bit_or _ _ i
+    ∙ ap₂ ◌||◌ (bit-bit_and set _ i ∙ ap (λ (b : Bool). bit set i && b) (bit_not width f i lf il)) (bit-bit_and other f i)
     ∙ either (bit f i) (bit set i) (bit other i)
     ∙ sym (bit_where width (λ i. cond (bit f i) (bit other i) (bit set i)) i il))
   where

@@ -8,7 +8,7 @@ use super::{Gate, GateKind, LineSet};
 
 // The state that the cascade sends this one to: each gate of the list once, first to last.
 pub fn run_cascade<K: GateKind>(gates: &[Gate], state: LineSet) -> LineSet
-    ensures { bit result ≡ run means gates.now (bit state) }
+    ensures { bit result ≡ run K.means gates.now (bit state) }
 {
     let mut reached = state;
     for gate in gates {
@@ -19,8 +19,8 @@ pub fn run_cascade<K: GateKind>(gates: &[Gate], state: LineSet) -> LineSet
 
 // Turns the cascade round: last to first, each gate inverted. What it now does undoes what it did.
 pub fn invert_cascade<K: GateKind>(gates: &mut [Gate])
-    ensures after { gates.new ≡ backward means gates.old }
-    ensures undoes { Undoes means gates.old gates.new }
+    ensures after { gates.new ≡ backward K.means gates.old }
+    ensures undoes { Undoes K.means gates.old gates.new }
 {
     gates.reverse();
     for gate in gates.iter_mut() {
@@ -30,7 +30,7 @@ pub fn invert_cascade<K: GateKind>(gates: &mut [Gate])
 
 // The laws of cascades, which every kind has.
 pub fn cascade_laws<K: GateKind>()
-    ensures { CascadeLaws means }
+    ensures { CascadeLaws K.means }
 {}
 
 // The worked examples, which the definitions answer as the rules do.

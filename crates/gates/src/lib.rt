@@ -1,4 +1,6 @@
 // Reversible gates with controls of both signs: the gate record, kinds of gates, and running a cascade.
+#![tactic(auto)]
+
 mod cascade;
 mod controls;
 mod fredkin;

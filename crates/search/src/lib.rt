@@ -1,4 +1,6 @@
 // Policies, and the search that shows a policy all keys that occur, in rank order.
+#![tactic(auto)]
+
 pub mod candidates;
 mod earliest;
 mod key;

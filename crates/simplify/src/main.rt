@@ -1,4 +1,6 @@
 // Runs a full adder over every state of its lines and back again, edits it through a pile of mounts, shelves templates, and prints what it saw.
+#![tactic(auto)]
+
 mod adder;
 mod failure;
 mod list;

@@ -1,4 +1,6 @@
 // Stores of gates: lists in memory that the caller lends, and views of other stores.
+#![tactic(auto)]
+
 mod gap;
 mod laws;
 mod plain;

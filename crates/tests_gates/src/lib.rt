@@ -1,4 +1,6 @@
 // Tests of the crate `gates` by brute force, against slow rules that are written here for the tests alone.
+#![tactic(auto)]
+
 #[cfg(test)]
 mod cases;
 #[cfg(test)]

@@ -1,4 +1,6 @@
 // Tests of the crate `stores`: fixed sequences of calls on piles of mounts, beside a list that is kept by rules written here for the tests alone.
+#![tactic(auto)]
+
 #[cfg(test)]
 mod drive;
 #[cfg(test)]

@@ -1,4 +1,6 @@
 // Runs the search on a small problem with several policies, and prints what each singles out.
+#![tactic(auto)]
+
 mod policies;
 mod triples;
 

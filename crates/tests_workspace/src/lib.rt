@@ -1,4 +1,6 @@
 // Tests of the crate `workspace`: proposals, each with the number that the rules give it, and edits between looks.
+#![tactic(auto)]
+
 #[cfg(test)]
 mod allowed;
 #[cfg(test)]

@@ -1,4 +1,6 @@
 // Templates on a shelf, and the replacement of what occurs of them in a cascade.
+#![tactic(auto)]
+
 mod asking;
 mod blockers;
 mod check;

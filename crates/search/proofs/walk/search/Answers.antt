@@ -5,7 +5,7 @@ use Rattle.search.proofs.Choosing.{FoundBy, found_none, held_none, found_first, 
 use Rattle.search.proofs.Numbers.{left_less, fits_first}
 use Rattle.search.proofs.Steps.{seen_start, seen_skip, seen_more, seen_closed, seen_done}
 use Rattle.search.proofs.walk.search.Goals as goal
-use Rattle.search.proofs.walk.search.Goals.{then-is-none, else-is-none}
+use Rattle.search.proofs.walk.search.Goals.{then-is_none, else-is_none}
 
 pub loop-place-init : goal.loop-place-init
 loop-place-init g c sound from = (
@@ -26,9 +26,9 @@ returns-then-descend g c sound from =
     let By : ℕ → Type 0 = λ n. FoundBy (g.Q.Problem.test s) n (held c.descend.new.taken) in
     searched _ _ _ _ _ _ _
     (seen_closed _ _ _ _ _ [] _ _ formed.some refl (first + 1) _ _ below (seen_more _ _ _ _ _ [] _ first _ inv.0 _ put _ (left_less [] _ first put) _ (c.if-descend.ensures fits)))
-    (elim c.if-is-none.branch [
-      | then-is-none w ↦ subst By (sym w.lowest-is) (found_first _ _ _ number_limit 23 first _ g.met.P.Policy.takes_first formed inv.0 (held_none _ w.if-is-none.ensures) _ _ put _ (left_less [] _ first put) (c.if-descend.ensures fits))
-      | else-is-none w ↦ subst By (sym w.lowest-is) (found_before _ _ _ _ w.if-is-none.ensures inv.1)
+    (elim c.if-is_none.branch [
+      | then-is_none w ↦ subst By (sym w.lowest-is) (found_first _ _ _ number_limit 23 first _ g.met.P.Policy.takes_first formed inv.0 (held_none _ w.if-is_none.ensures) _ _ put _ (left_less [] _ first put) (c.if-descend.ensures fits))
+      | else-is_none w ↦ subst By (sym w.lowest-is) (found_before _ _ _ _ w.if-is_none.ensures inv.1)
     ])
 
 pub loop-place-preserved : goal.loop-place-preserved
@@ -40,9 +40,9 @@ loop-place-preserved g c sound from =
     let fits = fits_first (g.Q.Problem.sound s) (g.Q.Problem.started s) (g.Q.Problem.noted s) _ first _ _ _ sound put (c.start-start.ensures sound) (c.blank-blank.ensures sound) c.note-note.ensures in
     let By : ℕ → Type 0 = λ n. FoundBy (g.Q.Problem.test s) n (held c.descend.new.taken) in (
       seen_more _ _ _ _ _ [] _ first _ inv.0 _ put _ (left_less [] _ first put) _ (c.if-descend.ensures fits),
-      elim c.if-is-none.branch [
-        | then-is-none w ↦ subst By (sym w.lowest-is) (found_first _ _ _ number_limit 23 first _ g.met.P.Policy.takes_first (g.Q.Problem.formed s sound) inv.0 (held_none _ w.if-is-none.ensures) _ _ put _ (left_less [] _ first put) (c.if-descend.ensures fits))
-        | else-is-none w ↦ subst By (sym w.lowest-is) (found_before _ _ _ _ w.if-is-none.ensures inv.1)
+      elim c.if-is_none.branch [
+        | then-is_none w ↦ subst By (sym w.lowest-is) (found_first _ _ _ number_limit 23 first _ g.met.P.Policy.takes_first (g.Q.Problem.formed s sound) inv.0 (held_none _ w.if-is_none.ensures) _ _ put _ (left_less [] _ first put) (c.if-descend.ensures fits))
+        | else-is_none w ↦ subst By (sym w.lowest-is) (found_before _ _ _ _ w.if-is_none.ensures inv.1)
       ],
     )
 

@@ -8,12 +8,12 @@ pub loop-line-init : goal.loop-line-init
 unfolding every_below
 loop-line-init c = refl
 
-pub returns-then-not-has-line : goal.returns-then-not-has-line
-returns-then-not-has-line c = sym (every_fails c.args.lines (bit c.args.set) c.loop-line.line c.loop-line-test.true (sym c.if-not-has-line.ensures))
+pub returns-then-not-has_line : goal.returns-then-not-has_line
+returns-then-not-has_line c = sym (every_fails c.args.lines (bit c.args.set) c.loop-line.line c.loop-line-test.true (sym c.if-not-has_line.ensures))
 
 pub loop-line-preserved : goal.loop-line-preserved
 unfolding every_below
 loop-line-preserved c =
     let i = c.loop-line.line in
     let next : i + 1 ≡ suc i = omega arith in
-    ap (λ (n : ℕ). every_below n (bit c.args.set)) next ∙ and_from _ _ (sym c.if-not-has-line.ensures) c.loop-line.invariant
+    ap (λ (n : ℕ). every_below n (bit c.args.set)) next ∙ and_from _ _ (sym c.if-not-has_line.ensures) c.loop-line.invariant

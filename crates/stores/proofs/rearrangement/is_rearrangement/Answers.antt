@@ -4,7 +4,7 @@ use Rattle.gates.specs.Lines.{width, bit}
 use Rattle.stores.specs.Mounts.{completes}
 use Rattle.stores.proofs.Rearranging.{completes_stops, completes_goes_on, completes_ends, no_rearrangement}
 use Rattle.stores.proofs.rearrangement.is_rearrangement.Goals as goal
-use Rattle.stores.proofs.rearrangement.is_rearrangement.Goals.{then-line-lines-via-then-line-lines, then-line-lines-via-else-line-lines+then-has-line}
+use Rattle.stores.proofs.rearrangement.is_rearrangement.Goals.{then-line-lines-via-then-line-lines, then-line-lines-via-else-line-lines+then-has_line}
 
 pub returns-then-line-lines : goal.returns-then-line-lines
 returns-then-line-lines c =
@@ -16,7 +16,7 @@ returns-then-line-lines c =
     sym (no_rearrangement n t (sym c.loop-line.invariant ∙ completes_stops n seen t i c.loop-line-test.true
     (elim c.then-line-lines.branch [
       | then-line-lines-via-then-line-lines w ↦ and_left (ltb x n) (not (bit seen x)) (le-ltb x n w.if-line-lines.true)
-      | then-line-lines-via-else-line-lines+then-has-line w ↦ and_right (ltb x n) (not (bit seen x)) (not_from_true (bit seen x) (sym w.if-has-line.ensures))
+      | then-line-lines-via-else-line-lines+then-has_line w ↦ and_right (ltb x n) (not (bit seen x)) (not_from_true (bit seen x) (sym w.if-has_line.ensures))
     ])))
 
 pub loop-line-preserved : goal.loop-line-preserved
@@ -26,13 +26,13 @@ loop-line-preserved c =
     let i = c.loop-line.line-index in
     let seen = c.loop-line.seen in
     let x = get_or t i 0 in
-    let good = and_from (ltb x n) (not (bit seen x)) (lt-ltb x n c.if-line-lines.false) (not_from_false (bit seen x) (sym c.if-has-line.ensures)) in
-    ap (λ s. completes n s (drop (i + 1) t)) c.with-line-seen.ensures ∙ sym (completes_goes_on n seen t i c.loop-line-test.true good) ∙ c.loop-line.invariant
+    let good = and_from (ltb x n) (not (bit seen x)) (lt-ltb x n c.if-line-lines.false) (not_from_false (bit seen x) (sym c.if-has_line.ensures)) in
+    ap (λ s. completes n s (drop (i + 1) t)) c.with_line-seen.ensures ∙ sym (completes_goes_on n seen t i c.loop-line-test.true good) ∙ c.loop-line.invariant
 
 pub returns : goal.returns
 returns c =
     let t = c.args.table.now in
     let n = c.args.lines in
-    c.has-all-lines.ensures ∙ sym (completes_ends n c.loop-line.seen t c.loop-line.line-index c.loop-line-test.false) ∙ c.loop-line.invariant
+    c.has_all_lines.ensures ∙ sym (completes_ends n c.loop-line.seen t c.loop-line.line-index c.loop-line-test.false) ∙ c.loop-line.invariant
     ∙ sym (ap (λ (b : Bool). b && (eqb (length t) n && completes n 0 t)) (le-leb n width c.if-lines-gt32.false)
     ∙ ap (λ (b : Bool). b && completes n 0 t) (eq-eqb (length t) n c.if-table-lines.false))

@@ -12,13 +12,13 @@ use Rattle.workspace.proofs.asking.does_group_fit.Goals as goal
 pub loop-member-init : goal.loop-member-init
 loop-member-init c = refl
 
-pub returns-then-not-does-agree : goal.returns-then-not-does-agree
-returns-then-not-does-agree c =
+pub returns-then-not-does_agree : goal.returns-then-not-does_agree
+returns-then-not-does_agree c =
     let groups = c.args.groups.now in
     let line = c.args.line in
     let number = c.args.number in
     each_fails (λ ms. fits_group groups (placed_of ms) line number) (λ m. beq (member groups number m.position) (reads m.gate line)) (λ m ms. refl)
-    c.args.chosen.now c.loop-member.member-index no_held c.loop-member-test.true c.if-not-does-agree.ensures
+    c.args.chosen.now c.loop-member.member-index no_held c.loop-member-test.true c.if-not-does_agree.ensures
     ∙ c.loop-member.invariant
 
 pub loop-member-preserved : goal.loop-member-preserved
@@ -27,7 +27,7 @@ loop-member-preserved c =
     let line = c.args.line in
     let number = c.args.number in
     each_more (λ ms. fits_group groups (placed_of ms) line number) (λ m. beq (member groups number m.position) (reads m.gate line)) (λ m ms. refl)
-    c.args.chosen.now c.loop-member.member-index no_held c.loop-member-test.true c.if-not-does-agree.ensures
+    c.args.chosen.now c.loop-member.member-index no_held c.loop-member-test.true c.if-not-does_agree.ensures
     ∙ c.loop-member.invariant
 
 pub returns : goal.returns

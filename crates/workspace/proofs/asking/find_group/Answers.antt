@@ -10,18 +10,18 @@ loop-number-init c =
     let all : suc (length groups) - 0 ≡ suc (length groups) = omega arith in
     ap (lowest (fits_group groups (placed_of c.args.chosen.now) c.args.line) c.args.sign 0) all
 
-pub returns-then-does-group-fit : goal.returns-then-does-group-fit
-returns-then-does-group-fit c =
+pub returns-then-does_group_fit : goal.returns-then-does_group_fit
+returns-then-does_group_fit c =
     let groups = c.args.groups.now in
     lowest_found (fits_group groups (placed_of c.args.chosen.now) c.args.line) c.args.sign c.loop-number.number (suc (length groups)) (omega (arith, c.loop-number-test.true))
-    c.if-does-group-fit.ensures
+    c.if-does_group_fit.ensures
     ∙ c.loop-number.invariant
 
 pub loop-number-preserved : goal.loop-number-preserved
 loop-number-preserved c =
     let groups = c.args.groups.now in
     lowest_more (fits_group groups (placed_of c.args.chosen.now) c.args.line) c.args.sign c.loop-number.number (suc (length groups)) (omega (arith, c.loop-number-test.true))
-    c.if-does-group-fit.ensures
+    c.if-does_group_fit.ensures
     ∙ c.loop-number.invariant
 
 pub returns : goal.returns

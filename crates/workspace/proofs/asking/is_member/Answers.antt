@@ -6,4 +6,4 @@ pub returns-then-number-groups : goal.returns-then-number-groups
 returns-then-number-groups c = member_past c.args.groups.now c.args.number c.args.position c.if-number-groups.true
 
 pub returns : goal.returns
-returns c = c.has-position.ensures ∙ member_at c.args.groups.now c.args.number c.args.position c.if-number-eq0.false c.if-number-groups.false
+returns c = c.has_position.ensures ∙ member_at c.args.groups.now c.args.number c.args.position c.if-number-eq0.false c.if-number-groups.false

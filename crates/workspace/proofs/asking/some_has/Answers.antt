@@ -11,12 +11,12 @@ use Rattle.workspace.proofs.asking.some_has.Goals as goal
 pub loop-member-init : goal.loop-member-init
 loop-member-init c = refl
 
-pub returns-then-is-signed : goal.returns-then-is-signed
-returns-then-is-signed c =
+pub returns-then-is_signed : goal.returns-then-is_signed
+returns-then-is_signed c =
     let sign = c.args.sign in
     let line = c.args.line in
     any_found (λ ms. some_has_lem sign (placed_of ms) line) (λ m. signed sign m.gate line) (some_or sign line) c.args.chosen.now c.loop-member.member-index no_held c.loop-member-test.true
-    c.if-is-signed.ensures
+    c.if-is_signed.ensures
     ∙ c.loop-member.invariant
 
 pub loop-member-preserved : goal.loop-member-preserved
@@ -24,7 +24,7 @@ loop-member-preserved c =
     let sign = c.args.sign in
     let line = c.args.line in
     any_more (λ ms. some_has_lem sign (placed_of ms) line) (λ m. signed sign m.gate line) (some_or sign line) c.args.chosen.now c.loop-member.member-index no_held c.loop-member-test.true
-    c.if-is-signed.ensures
+    c.if-is_signed.ensures
     ∙ c.loop-member.invariant
 
 pub returns : goal.returns

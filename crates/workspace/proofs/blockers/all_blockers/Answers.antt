@@ -12,8 +12,8 @@ loop-distance-preserved g c =
     let all = c.loop-distance.all in
     let d = c.loop-distance.distance in
     let room : d < length all = omega (arith, c.loop-distance.invariant.0, c.loop-distance-test.true, f.few) in (
-      length-set all d c.blockers-of.result ∙ c.loop-distance.invariant.0,
-      filled_more (λ e s. IsSet s (blocks g.K.GateKind.means f.gates e)) all d c.blockers-of.result room c.loop-distance.invariant.1 c.blockers-of.ensures,
+      length-set all d c.blockers_of.result ∙ c.loop-distance.invariant.0,
+      filled_more (λ e s. IsSet s (blocks g.K.GateKind.means f.gates e)) all d c.blockers_of.result room c.loop-distance.invariant.1 c.blockers_of.ensures,
     )
 
 pub returns : goal.returns

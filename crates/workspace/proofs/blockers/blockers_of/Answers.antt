@@ -15,7 +15,7 @@ loop-before-preserved g c =
     elim c.if-not-interchange.branch [
       | then-not-interchange w ↦
           subst (Below P (d + 1)) (sym w.blockers-is)
-          (below_more P d c.loop-before.blockers w.with-number-blockers.result c.loop-before.invariant (ap not (sym c.interchange.ensures ∙ w.if-not-interchange.true)) w.with-number-blockers.ensures)
+          (below_more P d c.loop-before.blockers w.with_number-blockers.result c.loop-before.invariant (ap not (sym c.interchange.ensures ∙ w.if-not-interchange.true)) w.with_number-blockers.ensures)
       | else-not-interchange w ↦
           subst (Below P (d + 1)) (sym w.blockers-is) (below_skip P d c.loop-before.blockers c.loop-before.invariant (ap not (sym c.interchange.ensures ∙ w.if-not-interchange.false)))
     ]

@@ -6,7 +6,7 @@ use Rattle.workspace.proofs.check.check_proposal.Goals as goal
 pub holding-requires : goal.holding-requires
 holding-requires g c =
     let met = answered g.met.K.GateKind.lawful (proposed c.args.proposal.now) None c.in-None.ensures in
-    record { few-gates = met.size.1; few-groups = met.groups.0 }
+    record { few_gates = met.size.1; few_groups = met.groups.0 }
 
 pub returns-in-Some : goal.returns-in-Some
 returns-in-Some g c = record {

@@ -14,16 +14,16 @@ returns-then-named-extended c =
 pub loop-number-init : goal.loop-number-init
 loop-number-init c = refl
 
-pub returns-then-not-are-same : goal.returns-then-not-are-same
-returns-then-not-are-same c =
+pub returns-then-not-are_same : goal.returns-then-not-are_same
+returns-then-not-are_same c =
     let frame = take c.args.frame.now.count c.args.frame.now.gates in
     let m = c.args.named.now in
     let p = c.args.extended.now in
     let i = c.loop-number.number in
     let lt : i < suc m.count = omega (arith, c.loop-number-test.true) in
     same_fails same_gate (chosen_gates frame m p) (first_gates frame m p) i no_gate (omega (arith, chosen_long frame m p)) (omega (arith, first_long frame m p, c.if-named-extended.false))
-    (c.if-not-are-same.ensures
-    ∙ ap₂ same_gate (chosen_at frame m p i c.find-distance.result c.find-gate-chosen.result lt c.find-distance.ensures c.find-gate-chosen.ensures) (first_at frame m p i lt c.if-named-extended.false))
+    (c.if-not-are_same.ensures
+    ∙ ap₂ same_gate (chosen_at frame m p i c.find_distance.result c.find_gate-chosen.result lt c.find_distance.ensures c.find_gate-chosen.ensures) (first_at frame m p i lt c.if-named-extended.false))
     ∙ c.loop-number.invariant
 
 pub loop-number-preserved : goal.loop-number-preserved
@@ -34,8 +34,8 @@ loop-number-preserved c =
     let i = c.loop-number.number in
     let lt : i < suc m.count = omega (arith, c.loop-number-test.true) in
     same_more same_gate (chosen_gates frame m p) (first_gates frame m p) i no_gate (omega (arith, chosen_long frame m p)) (omega (arith, first_long frame m p, c.if-named-extended.false))
-    (c.if-not-are-same.ensures
-    ∙ ap₂ same_gate (chosen_at frame m p i c.find-distance.result c.find-gate-chosen.result lt c.find-distance.ensures c.find-gate-chosen.ensures) (first_at frame m p i lt c.if-named-extended.false))
+    (c.if-not-are_same.ensures
+    ∙ ap₂ same_gate (chosen_at frame m p i c.find_distance.result c.find_gate-chosen.result lt c.find_distance.ensures c.find_gate-chosen.ensures) (first_at frame m p i lt c.if-named-extended.false))
     ∙ c.loop-number.invariant
 
 pub returns : goal.returns

@@ -43,7 +43,7 @@ loop-line-preserved g c =
           ∙ by_nothing k groups xs asking line held (w.in-Nothing.ensures ∙ same) c.loop-line.invariant
       | in-ControlOn w ↦
           ap (λ (p : Posed). Some (members_of p.members p.count)) w.extended-is
-          ∙ ap Some w.control-group-extended.ensures
+          ∙ ap Some w.control_group-extended.ensures
           ∙ by_control k groups xs asking line held w.in-ControlOn.sign w.in-ControlOn.group (w.in-ControlOn.ensures ∙ same) c.loop-line.invariant
     ]
 

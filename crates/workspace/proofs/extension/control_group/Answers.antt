@@ -19,8 +19,8 @@ loop-place-preserved g c =
     let lt = c.loop-place-test.true in
     let long : length xs ≡ p.count = members_long p.members p.count fits in (
       length-set c.loop-place.members i _ ∙ c.loop-place.invariant.0,
-      members_more c.loop-place.members (map f xs) i c.control-member.result (omega (arith, c.loop-place.invariant.0, p.few)) (omega (arith, length-map xs f)) c.loop-place.invariant.1
-          (c.control-member.ensures ∙ ap f (sym (members_at p.members p.count i fits lt)) ∙ sym (get_or-map f xs i no_member no_member (omega arith))),
+      members_more c.loop-place.members (map f xs) i c.control_member.result (omega (arith, c.loop-place.invariant.0, p.few)) (omega (arith, length-map xs f)) c.loop-place.invariant.1
+          (c.control_member.ensures ∙ ap f (sym (members_at p.members p.count i fits lt)) ∙ sym (get_or-map f xs i no_member no_member (omega arith))),
     )
 
 pub invariant-of-result : goal.invariant-of-result

@@ -17,12 +17,12 @@ returns g c gates is near rotates =
     let ds = take m.count m.later in
     let frame = take c.args.frame.now.count c.args.frame.now.gates in
     let rest : m.lines - 0 ≡ m.lines = omega arith in
-    let turns = c.turn-template-turned.ensures rotates in
-    c.add-controls.ensures
-    ∙ ap (λ (i : ℕ). extended_by k c.groups.result.now (members_of c.turn-template-turned.result.members c.turn-template-turned.result.count)
-    (gathered (asks (take i m.table) c.groups.result.now (members_of c.stand-beside-chosen.result.members c.stand-beside-chosen.result.count)) n)) rest
+    let turns = c.turn_template-turned.ensures rotates in
+    c.add_controls.ensures
+    ∙ ap (λ (i : ℕ). extended_by k c.groups.result.now (members_of c.turn_template-turned.result.members c.turn_template-turned.result.count)
+    (gathered (asks (take i m.table) c.groups.result.now (members_of c.stand_beside-chosen.result.members c.stand_beside-chosen.result.count)) n)) rest
     ∙ ap₂ (λ (xs : List Placed) (chosen : List Placed). extended_by k c.groups.result.now xs (gathered (asks (take m.lines m.table) c.groups.result.now chosen) n))
     turns
-    (c.stand-beside-chosen.ensures ∙ ap₂ beside turns (frame_places gates frame m.first ds is near))
+    (c.stand_beside-chosen.ensures ∙ ap₂ beside turns (frame_places gates frame m.first ds is near))
     ∙ ap (λ (groups : List ℕ). extended_by k groups (turned k (occurrence_of m).turn (placed t.gates))
     (gathered (asks (take m.lines m.table) groups (beside (turned k (occurrence_of m).turn (placed t.gates)) (at_places gates (m.first ∷ (occurrence_of m).later)))) n)) c.groups.ensures

@@ -34,10 +34,10 @@ loop-number-preserved c =
     let ly : i < length xs = omega (arith, turned_long p) in
     let ld : i < length ds = omega (arith, c.loop-number-test.true, c.min-count.ensures, distances_long c.args.named.now) in (
       length-set c.loop-number.members i _ ∙ c.loop-number.invariant.0,
-      members_more c.loop-number.members (beside xs (at_places frame ds)) i record { position = (get_or p.members i no_held).position; gate = c.find-gate.result }
+      members_more c.loop-number.members (beside xs (at_places frame ds)) i record { position = (get_or p.members i no_held).position; gate = c.find_gate.result }
           (omega (arith, c.loop-number.invariant.0, p.few)) (omega (arith, beside_long xs (at_places frame ds), length-map ds (λ q. get_or frame q no_gate))) c.loop-number.invariant.1
-          (beside_more xs frame ds i c.find-distance.result (get_or p.members i no_held).position c.find-gate.result ly ld
-          (ap (λ (x : Placed). x.position) (members_at p.members p.count i fits lx)) c.find-distance.ensures c.find-gate.ensures),
+          (beside_more xs frame ds i c.find_distance.result (get_or p.members i no_held).position c.find_gate.result ly ld
+          (ap (λ (x : Placed). x.position) (members_at p.members p.count i fits lx)) c.find_distance.ensures c.find_gate.ensures),
     )
 
 pub invariant-of-result : goal.invariant-of-result

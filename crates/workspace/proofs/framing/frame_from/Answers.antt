@@ -10,11 +10,11 @@ loop-distance-preserved g c =
     let m = g.S.Store.means c.args.store.now in
     let d = c.loop-distance.distance in
     let loaded = c.loop-distance.gates in
-    let read = c.unwrap-or.result in
+    let read = c.unwrap_or.result in
     let room : d < length loaded = omega (arith, c.loop-distance.invariant.0) in
-    let inside : c.args.first + d < length m.gates = omega (arith, c.loop-distance-test.true, c.min-count.ensures, c.saturating-sub.ensures, c.count.ensures) in (
+    let inside : c.args.first + d < length m.gates = omega (arith, c.loop-distance-test.true, c.min-count.ensures, c.saturating_sub.ensures, c.count.ensures) in (
       length-set loaded d read ∙ c.loop-distance.invariant.0,
-      loaded_more m.gates loaded c.args.first d read room inside (read_inside m (c.args.first + d) c.read.result read inside c.read.ensures c.unwrap-or.ensures) c.loop-distance.invariant.1,
+      loaded_more m.gates loaded c.args.first d read room inside (read_inside m (c.args.first + d) c.read.result read inside c.read.ensures c.unwrap_or.ensures) c.loop-distance.invariant.1,
     )
 
 pub invariant-of-result : goal.invariant-of-result
@@ -25,5 +25,5 @@ returns g c =
     let m = g.S.Store.means c.args.store.now in
     let d = c.loop-distance.distance in
     let end : d ≡ c.min-count.result = omega (arith, c.loop-distance-test.false, c.loop-distance.auto.distance-end) in
-    let count = c.min-count.ensures ∙ ap (λ (x : ℕ). min x 32) (c.saturating-sub.ensures ∙ ap (λ (x : ℕ). x - c.args.first) c.count.ensures) in
+    let count = c.min-count.ensures ∙ ap (λ (x : ℕ). min x 32) (c.saturating_sub.ensures ∙ ap (λ (x : ℕ). x - c.args.first) c.count.ensures) in
     loaded_all m.gates c.loop-distance.gates c.args.first c.min-count.result d count end c.loop-distance.invariant.1

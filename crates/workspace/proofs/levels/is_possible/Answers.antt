@@ -13,18 +13,18 @@ returns-then-set-eq0 g c gates first started below =
     let note = c.args.note.now in
     let j = c.loop-place.place in
     let inside : j < min c.args.few 8 = omega (arith, c.loop-place-test.true, c.min-place-end.ensures) in
-    let is = c.narrowed-set-set.ensures gates first started below in
+    let is = c.narrowed_set-set.ensures gates first started below in
     sym (possible_fails k (frame_at gates first) note c.args.line c.args.x (min c.args.few 8) j inside
-    (none_of _ c.narrowed-set-set.result (can_stand k (frame_at gates first) (gate_of_lem note j) c.args.line c.args.x) is c.if-set-eq0.true))
+    (none_of _ c.narrowed_set-set.result (can_stand k (frame_at gates first) (gate_of_lem note j) c.args.line c.args.x) is c.if-set-eq0.true))
 
 pub loop-place-preserved : goal.loop-place-preserved
 loop-place-preserved g c gates first started below =
     let k = g.K.GateKind.means in
     let note = c.args.note.now in
     let j = c.loop-place.place in
-    let is = c.narrowed-set-set.ensures gates first started below in
+    let is = c.narrowed_set-set.ensures gates first started below in
     possible_more k (frame_at gates first) note c.args.line c.args.x j (c.loop-place.invariant gates first started below)
-    (one_of _ c.narrowed-set-set.result (can_stand k (frame_at gates first) (gate_of_lem note j) c.args.line c.args.x) is c.narrowed-set-set.type-inv c.if-set-eq0.false)
+    (one_of _ c.narrowed_set-set.result (can_stand k (frame_at gates first) (gate_of_lem note j) c.args.line c.args.x) is c.narrowed_set-set.type-inv c.if-set-eq0.false)
 
 pub returns : goal.returns
 returns g c gates first started below =

@@ -9,7 +9,7 @@ use Rattle.workspace.specs.Notes.{possible}
 use Rattle.workspace.specs.TurnTests.{has_number_lem}
 use Rattle.workspace.proofs.DistanceSets.{Below, below_none, below_more, below_skip, below_all}
 use Rattle.workspace.proofs.levels.next_lines.Goals as goal
-use Rattle.workspace.proofs.levels.next_lines.Goals.{then-not-is-mapped+then-is-possible, else-not-is-mapped, else-not-is-mapped-via-then-not-is-mapped+else-is-possible, else-not-is-mapped-via-else-not-is-mapped}
+use Rattle.workspace.proofs.levels.next_lines.Goals.{then-not-is_mapped+then-is_possible, else-not-is_mapped, else-not-is_mapped-via-then-not-is_mapped+else-is_possible, else-not-is_mapped-via-else-not-is_mapped}
 
 -- the line is no image yet and leaves the gates somewhere to stand
 abbrev Free : KindMeaning → List Gate → Note → List ℕ → ℕ → ℕ → ℕ → Bool
@@ -26,18 +26,18 @@ loop-x-preserved g c gates first started few =
     let can = possible k (frame_at gates first) c.args.note.now (min c.args.few 8) c.args.line x in
     let P = Free k (frame_at gates first) c.args.note.now key c.args.few c.args.line in
     let below : x < 32 = omega (arith, c.loop-x-test.true) in
-    elim c.if-not-is-mapped.branch [
-      | then-not-is-mapped+then-is-possible w ↦
+    elim c.if-not-is_mapped.branch [
+      | then-not-is_mapped+then-is_possible w ↦
           subst (Below P (x + 1)) (sym w.set-is)
-          (below_more P x c.loop-x.set w.with-number-set.result (c.loop-x.invariant gates first started few)
-          (and_from (not (has_number_lem (drop 6 key) x)) can (not_from_false (has_number_lem (drop 6 key) x) (sym w.if-not-is-mapped.ensures)) (sym (w.if-is-possible.ensures gates first started below)))
-          w.with-number-set.ensures)
-      | else-not-is-mapped w ↦
+          (below_more P x c.loop-x.set w.with_number-set.result (c.loop-x.invariant gates first started few)
+          (and_from (not (has_number_lem (drop 6 key) x)) can (not_from_false (has_number_lem (drop 6 key) x) (sym w.if-not-is_mapped.ensures)) (sym (w.if-is_possible.ensures gates first started below)))
+          w.with_number-set.ensures)
+      | else-not-is_mapped w ↦
           subst (Below P (x + 1)) (sym w.set-is)
           (below_skip P x c.loop-x.set (c.loop-x.invariant gates first started few)
-          (elim w.else-not-is-mapped.branch [
-            | else-not-is-mapped-via-then-not-is-mapped+else-is-possible w' ↦ and_right (not (has_number_lem (drop 6 key) x)) can (sym (w'.if-is-possible.ensures gates first started below))
-            | else-not-is-mapped-via-else-not-is-mapped w' ↦ and_left (not (has_number_lem (drop 6 key) x)) can (not_from_true (has_number_lem (drop 6 key) x) (sym w'.if-not-is-mapped.ensures))
+          (elim w.else-not-is_mapped.branch [
+            | else-not-is_mapped-via-then-not-is_mapped+else-is_possible w' ↦ and_right (not (has_number_lem (drop 6 key) x)) can (sym (w'.if-is_possible.ensures gates first started below))
+            | else-not-is_mapped-via-else-not-is_mapped w' ↦ and_left (not (has_number_lem (drop 6 key) x)) can (not_from_true (has_number_lem (drop 6 key) x) (sym w'.if-not-is_mapped.ensures))
           ]))
     ]
 

@@ -18,9 +18,9 @@ loop-share-preserved c =
     elim c.if-size-share.branch [
       | then-size-share+then-share-size w ↦
           subst (Below P (v + 1)) (sym w.set-is)
-          (below_more P v c.loop-share.set w.with-number-set.result c.loop-share.invariant
+          (below_more P v c.loop-share.set w.with_number-set.result c.loop-share.invariant
           (and_from (ltb c.args.size (2 * (8 - v))) (leb (8 - v) c.args.size) (lt-ltb c.args.size (2 * (8 - v)) w.if-size-share.true) (le-leb (8 - v) c.args.size w.if-share-size.true))
-          w.with-number-set.ensures)
+          w.with_number-set.ensures)
       | else-size-share w ↦
           subst (Below P (v + 1)) (sym w.set-is)
           (below_skip P v c.loop-share.set c.loop-share.invariant

@@ -12,25 +12,25 @@ chosen_passes b p e = ap (λ (a : Bool). not a || p) e
 pub loop-before-init : goal.loop-before-init
 loop-before-init g c = refl
 
-pub returns-then-not-is-passed : goal.returns-then-not-is-passed
-returns-then-not-is-passed g c =
+pub returns-then-not-is_passed : goal.returns-then-not-is_passed
+returns-then-not-is_passed g c =
     let k = g.K.GateKind.means in
     let gates = c.args.gates.now in
     let n = c.args.distance in
     let chosen = bit c.args.chosen in
     let here = get_or gates n no_gate in
     let inside : n ≤ length gates = omega (arith, c.requires) in
-    ahead_fails k chosen gates n here c.loop-before.before inside c.loop-before-test.true c.if-not-is-passed.ensures
+    ahead_fails k chosen gates n here c.loop-before.before inside c.loop-before-test.true c.if-not-is_passed.ensures
     ∙ c.loop-before.invariant
     ∙ ahead_none k chosen gates n here
-    ∙ chosen_passes (chosen n) (passes k (unchosen chosen (take n gates)) here) c.if-not-has-position.ensures
+    ∙ chosen_passes (chosen n) (passes k (unchosen chosen (take n gates)) here) c.if-not-has_position.ensures
 
 pub loop-before-preserved : goal.loop-before-preserved
 loop-before-preserved g c =
     let gates = c.args.gates.now in
     let n = c.args.distance in
     let inside : n ≤ length gates = omega (arith, c.requires) in
-    ahead_more g.K.GateKind.means (bit c.args.chosen) gates n (get_or gates n no_gate) c.loop-before.before inside c.loop-before-test.true c.if-not-is-passed.ensures
+    ahead_more g.K.GateKind.means (bit c.args.chosen) gates n (get_or gates n no_gate) c.loop-before.before inside c.loop-before-test.true c.if-not-is_passed.ensures
     ∙ c.loop-before.invariant
 
 pub returns : goal.returns
@@ -43,4 +43,4 @@ returns g c =
     ahead_all k chosen gates n here c.loop-before.before c.loop-before-test.false
     ∙ c.loop-before.invariant
     ∙ ahead_none k chosen gates n here
-    ∙ chosen_passes (chosen n) (passes k (unchosen chosen (take n gates)) here) c.if-not-has-position.ensures
+    ∙ chosen_passes (chosen n) (passes k (unchosen chosen (take n gates)) here) c.if-not-has_position.ensures

@@ -22,11 +22,11 @@ loop-place-preserved g c =
     let narrow : ℕ → ℕ → Type 0 =
     λ j s. (gates : List Gate) (first : ℕ) → Started k gates first c.args.start.now → c.args.x < 32
     → IsSet s (λ d. bit (get_or above.reached j 0) d && can_stand k (frame_at gates first) (gate_of_lem above j) c.args.line c.args.x d) in (
-      length-set reached i c.narrowed-set.result ∙ c.loop-place.invariant.0,
-      λ j l. get_or-set_other reached i j c.narrowed-set.result 0 (λ e. omega arith) ∙ c.loop-place.invariant.1 j (omega arith),
-      filled_more narrow reached i c.narrowed-set.result room c.loop-place.invariant.2
+      length-set reached i c.narrowed_set.result ∙ c.loop-place.invariant.0,
+      λ j l. get_or-set_other reached i j c.narrowed_set.result 0 (λ e. omega arith) ∙ c.loop-place.invariant.1 j (omega arith),
+      filled_more narrow reached i c.narrowed_set.result room c.loop-place.invariant.2
           (λ gates first started below d l.
-          c.narrowed-set.ensures gates first started below d l
+          c.narrowed_set.ensures gates first started below d l
           ∙ ap (λ (s : ℕ). bit s d && can_stand k (frame_at gates first) (gate_of_lem above i) c.args.line c.args.x d) was),
     )
 

@@ -5,4 +5,4 @@ use Rattle.workspace.proofs.noting.narrowed_set.Goals as goal
 
 pub returns : goal.returns
 returns g c gates first started below i l =
-    bit_and c.args.set c.role-set.result i ∙ ap (λ (b : Bool). bit c.args.set i && b) (c.role-set.ensures gates first started below i l)
+    bit_and c.args.set c.role_set.result i ∙ ap (λ (b : Bool). bit c.args.set i && b) (c.role_set.ensures gates first started below i l)

@@ -15,8 +15,8 @@ returns g c =
     let m = c.args.named.now in
     let rest : f.count - 0 ≡ f.count = omega arith in
     let few : length frame ≤ 32 = omega (arith, length-take f.count f.gates, f.few) in
-    c.do-move-front.ensures
-    ∙ ap (λ (n : ℕ). moves_front k (bit c.find-chosen-chosen.result) [] (take n f.gates)) rest
-    ∙ moves_same k (bit c.find-chosen-chosen.result) (has_number_lem (0 ∷ take m.count m.later)) [] frame
-    (λ i lt. c.find-chosen-chosen.ensures i (omega arith) ∙ ap (λ (ds : List ℕ). has_number_lem (0 ∷ ds) i) c.later.ensures)
-    ∙ ap (λ (b : Bool). b && chosen_move k frame m) c.if-not-are-first.ensures
+    c.do_move_front.ensures
+    ∙ ap (λ (n : ℕ). moves_front k (bit c.find_chosen-chosen.result) [] (take n f.gates)) rest
+    ∙ moves_same k (bit c.find_chosen-chosen.result) (has_number_lem (0 ∷ take m.count m.later)) [] frame
+    (λ i lt. c.find_chosen-chosen.ensures i (omega arith) ∙ ap (λ (ds : List ℕ). has_number_lem (0 ∷ ds) i) c.later.ensures)
+    ∙ ap (λ (b : Bool). b && chosen_move k frame m) c.if-not-are_first.ensures

@@ -4,10 +4,10 @@ use Rattle.workspace.specs.Proposals.{template_of}
 use Rattle.workspace.proofs.RulesInFrame.{rotates, not_placed, placed_right, not_extended, standing}
 use Rattle.workspace.proofs.occurs.meets_rules.Goals as goal
 
-pub returns-then-not-are-places-right : goal.returns-then-not-are-places-right
-returns-then-not-are-places-right g c gates shelf framed listed is =
+pub returns-then-not-are_places_right : goal.returns-then-not-are_places_right
+returns-then-not-are_places_right g c gates shelf framed listed is =
     not_placed g.K.GateKind.means c.args.lines c.args.frame.now c.args.named.now (template_of c.args.template.now) gates shelf framed listed is
-    c.if-not-is-turn.ensures c.if-not-are-places-right.ensures
+    c.if-not-is_turn.ensures c.if-not-are_places_right.ensures
 
 pub returns-in-None : goal.returns-in-None
 returns-in-None g c gates shelf framed listed is =
@@ -16,8 +16,8 @@ returns-in-None g c gates shelf framed listed is =
     let f = c.args.frame.now in
     let e = template_of c.args.template.now in
     let n = c.args.lines in
-    let turns = c.if-not-is-turn.ensures in
-    let right = c.if-not-are-places-right.ensures in
+    let turns = c.if-not-is_turn.ensures in
+    let right = c.if-not-are_places_right.ensures in
     not_extended k n f m e gates shelf framed listed is turns right
     (c.in-None.ensures gates framed (placed_right k n f m e gates shelf framed listed is turns right).near (rotates k n f m e gates shelf framed listed is turns))
 
@@ -28,9 +28,9 @@ returns-in-Some g c gates shelf framed listed is =
     let f = c.args.frame.now in
     let e = template_of c.args.template.now in
     let n = c.args.lines in
-    let turns = c.if-not-is-turn.ensures in
-    let right = c.if-not-are-places-right.ensures in
+    let turns = c.if-not-is_turn.ensures in
+    let right = c.if-not-are_places_right.ensures in
     let p = c.in-Some.extended in
-    c.do-stand.ensures
+    c.do_stand.ensures
     ∙ standing k n f m e gates shelf framed listed is turns right (members_of p.members p.count)
     (c.in-Some.ensures gates framed (placed_right k n f m e gates shelf framed listed is turns right).near (rotates k n f m e gates shelf framed listed is turns))

@@ -9,7 +9,7 @@ pub loop-place-init : goal.loop-place-init
 loop-place-init g c = (refl, refl)
 
 pub bounds-gates-position : goal.bounds-gates-position
-bounds-gates-position g c = omega (arith, ap length c.gates-gates.ensures, c.size-size.ensures.is, c.find-source-position.ensures.within)
+bounds-gates-position g c = omega (arith, ap length c.gates-gates.ensures, c.size-size.ensures.is, c.find_source-position.ensures.within)
 
 pub bounds-members-place : goal.bounds-members-place
 bounds-members-place g c = omega (arith, c.size-size.ensures.few, c.loop-place-test.true)
@@ -24,8 +24,8 @@ loop-place-preserved g c =
     let room : c.loop-place.place < length c.loop-place.members = omega (arith, c.loop-place.invariant.0, bounds-members-place g c) in (
       length-set c.loop-place.members c.loop-place.place _ ∙ c.loop-place.invariant.0,
       posed_more k gates c.args.back c.min-turned.result c.args.flips few c.loop-place.members c.loop-place.place inside
-          c.find-source-position.result c.pose-gate-gate.result room c.loop-place.invariant.1
-          (c.find-source-position.ensures.is ∙ ap (λ (m : ℕ). source_place m c.args.back c.min-turned.result c.loop-place.place) size) c.pose-gate-gate.ensures,
+          c.find_source-position.result c.pose_gate-gate.result room c.loop-place.invariant.1
+          (c.find_source-position.ensures.is ∙ ap (λ (m : ℕ). source_place m c.args.back c.min-turned.result c.loop-place.place) size) c.pose_gate-gate.ensures,
     )
 
 pub invariant-of-result : goal.invariant-of-result

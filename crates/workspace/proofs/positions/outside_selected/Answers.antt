@@ -2,7 +2,7 @@ use Rattle.std.proofs.Common.{◌+◌, ◌^◌, ◌<◌, get_or, sym, subst, ari
 use Rattle.gates.specs.Lines.{width}
 use Rattle.workspace.proofs.Stepping.{Found, found_none, found_more, found_skip, found_all}
 use Rattle.workspace.proofs.positions.outside_selected.Goals as goal
-use Rattle.workspace.proofs.positions.outside_selected.Goals.{then-has-position, else-has-position}
+use Rattle.workspace.proofs.positions.outside_selected.Goals.{then-has_position, else-has_position}
 
 pub loop-place-init : goal.loop-place-init
 loop-place-init c = found_none c.args.groups.now c.args.selection
@@ -14,13 +14,13 @@ loop-place-preserved c =
     let place = c.loop-place.place in
     let found = c.loop-place.selected in
     let fits : get_or groups place 0 < 2 ^ width = omega (arith, c.type-inv.groups place) in
-    elim c.if-has-position.branch [
-      | then-has-position w ↦
+    elim c.if-has_position.branch [
+      | then-has_position w ↦
           subst (Found groups selection (place + 1)) (sym w.selected-is)
-          (found_more groups selection place found c.loop-place-test.true c.loop-place.invariant fits w.if-has-position.ensures)
-      | else-has-position w ↦
+          (found_more groups selection place found c.loop-place-test.true c.loop-place.invariant fits w.if-has_position.ensures)
+      | else-has_position w ↦
           subst (Found groups selection (place + 1)) (sym w.selected-is)
-          (found_skip groups selection place found c.loop-place-test.true c.loop-place.invariant w.if-has-position.ensures)
+          (found_skip groups selection place found c.loop-place-test.true c.loop-place.invariant w.if-has_position.ensures)
     ]
 
 pub returns : goal.returns

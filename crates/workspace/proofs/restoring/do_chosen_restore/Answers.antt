@@ -15,10 +15,10 @@ loop-state-preserved g c =
     let chosen = c.args.chosen in
     let state = c.loop-state.state in
     every_more state (restored k gates chosen) c.loop-state.invariant
-    (agree_same c.run-chosen.result state (run k (picked (bit chosen) gates) (bit state)) c.run-chosen.ensures c.if-run-chosen-state.false)
+    (agree_same c.run_chosen.result state (run k (picked (bit chosen) gates) (bit state)) c.run_chosen.ensures c.if-run_chosen-state.false)
 
-pub returns-then-run-chosen-state : goal.returns-then-run-chosen-state
-returns-then-run-chosen-state g c =
+pub returns-then-run_chosen-state : goal.returns-then-run_chosen-state
+returns-then-run_chosen-state g c =
     let k = g.K.GateKind.means in
     let gates = c.args.gates.now in
     let chosen = c.args.chosen in
@@ -28,7 +28,7 @@ returns-then-run-chosen-state g c =
     let within : state < 2 ^ lines = omega (arith, c.loop-state-test.true, one_shl lines width few) in
     let narrow : state < 2 ^ width = omega (arith, within, pow_below lines width few) in
     sym (every_fails (2 ^ lines) state (restored k gates chosen) within
-    (agree_other c.run-chosen.result state (run k (picked (bit chosen) gates) (bit state)) c.run-chosen.type-inv narrow c.run-chosen.ensures c.if-run-chosen-state.true))
+    (agree_other c.run_chosen.result state (run k (picked (bit chosen) gates) (bit state)) c.run_chosen.type-inv narrow c.run_chosen.ensures c.if-run_chosen-state.true))
 
 pub returns : goal.returns
 returns g c =

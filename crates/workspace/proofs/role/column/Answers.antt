@@ -3,7 +3,7 @@ use Rattle.gates.specs.Lines.{bit}
 use Rattle.workspace.specs.Starts.{at_distance, lines_in_lem}
 use Rattle.workspace.proofs.DistanceSets.{Below, below_none, below_more, below_skip, below_all}
 use Rattle.workspace.proofs.role.column.Goals as goal
-use Rattle.workspace.proofs.role.column.Goals.{then-has-line, else-has-line}
+use Rattle.workspace.proofs.role.column.Goals.{then-has_line, else-has_line}
 
 pub loop-distance-init : goal.loop-distance-init
 loop-distance-init g c = below_none _
@@ -13,12 +13,12 @@ loop-distance-preserved g c =
     let gates = c.args.frame.now.gates in
     let P : ℕ → Bool = λ d. bit (lines_in_lem g.K.GateKind.means c.args.role (at_distance gates d)) c.args.line in
     let d = c.loop-distance.distance in
-    let is = sym (c.has-line.ensures ∙ ap (λ (set : ℕ). bit set c.args.line) c.lines-in.ensures) in
-    elim c.if-has-line.branch [
-      | then-has-line w ↦
+    let is = sym (c.has_line.ensures ∙ ap (λ (set : ℕ). bit set c.args.line) c.lines_in.ensures) in
+    elim c.if-has_line.branch [
+      | then-has_line w ↦
           subst (Below P (d + 1)) (sym w.distances-is)
-          (below_more P d c.loop-distance.distances w.with-number-distances.result c.loop-distance.invariant (is ∙ w.if-has-line.true) w.with-number-distances.ensures)
-      | else-has-line w ↦ subst (Below P (d + 1)) (sym w.distances-is) (below_skip P d c.loop-distance.distances c.loop-distance.invariant (is ∙ w.if-has-line.false))
+          (below_more P d c.loop-distance.distances w.with_number-distances.result c.loop-distance.invariant (is ∙ w.if-has_line.true) w.with_number-distances.ensures)
+      | else-has_line w ↦ subst (Below P (d + 1)) (sym w.distances-is) (below_skip P d c.loop-distance.distances c.loop-distance.invariant (is ∙ w.if-has_line.false))
     ]
 
 pub returns : goal.returns

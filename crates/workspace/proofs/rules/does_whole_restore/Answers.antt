@@ -7,4 +7,4 @@ pub returns : goal.returns
 returns g c =
     let k = g.K.GateKind.means in
     let t = proposed c.args.proposal.now in
-    sym (part_tested k t 0 c.outside-selected-all.result c.do-chosen-restore.result c.requires.few-gates c.outside-selected-all.ensures c.do-chosen-restore.ensures) ∙ part_whole k t
+    sym (part_tested k t 0 c.outside_selected-all.result c.do_chosen_restore.result c.requires.few_gates c.outside_selected-all.ensures c.do_chosen_restore.ensures) ∙ part_whole k t

@@ -4,7 +4,7 @@ use Rattle.workspace.specs.Starts.{within}
 use Rattle.workspace.proofs.DistanceSets.{Below, below_none, below_more, below_skip, below_all}
 use Rattle.workspace.proofs.Starting.{eligible_known}
 use Rattle.workspace.proofs.start.eligible.Goals as goal
-use Rattle.workspace.proofs.start.eligible.Goals.{then-after-distance+then-is-within, else-after-distance, else-after-distance-via-then-after-distance+else-is-within, else-after-distance-via-else-after-distance}
+use Rattle.workspace.proofs.start.eligible.Goals.{then-after-distance+then-is_within, else-after-distance, else-after-distance-via-then-after-distance+else-is_within, else-after-distance-via-else-after-distance}
 
 pub loop-distance-init : goal.loop-distance-init
 loop-distance-init c = below_none _
@@ -15,14 +15,14 @@ loop-distance-preserved c =
     let d = c.loop-distance.distance in
     let set = c.loop-distance.distances in
     elim c.if-after-distance.branch [
-      | then-after-distance+then-is-within w ↦
+      | then-after-distance+then-is_within w ↦
           subst (Below P (d + 1)) (sym w.distances-is)
-          (below_more P d set w.with-number-distances.result c.loop-distance.invariant
-          (and_from _ _ (lt-ltb c.args.after d w.if-after-distance.true) (sym w.is-within.ensures ∙ w.if-is-within.true)) w.with-number-distances.ensures)
+          (below_more P d set w.with_number-distances.result c.loop-distance.invariant
+          (and_from _ _ (lt-ltb c.args.after d w.if-after-distance.true) (sym w.is_within.ensures ∙ w.if-is_within.true)) w.with_number-distances.ensures)
       | else-after-distance w ↦
           subst (Below P (d + 1)) (sym w.distances-is)
           (elim w.else-after-distance.branch [
-            | else-after-distance-via-then-after-distance+else-is-within v ↦ below_skip P d set c.loop-distance.invariant (and_right _ _ (sym v.is_Within.ensures ∙ v.if-is-within.false))
+            | else-after-distance-via-then-after-distance+else-is_within v ↦ below_skip P d set c.loop-distance.invariant (and_right _ _ (sym v.is_Within.ensures ∙ v.if-is_within.false))
             | else-after-distance-via-else-after-distance v ↦ below_skip P d set c.loop-distance.invariant (and_left _ _ (le-ltb c.args.after d v.if-after-distance.false))
           ])
     ]

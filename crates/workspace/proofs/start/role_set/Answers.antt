@@ -12,8 +12,8 @@ returns g c gates first started l =
     let s = c.args.start.now in
     let t = c.args.gate in
     let x = c.args.x in
-    roles_agree g.K.GateKind.means gates first s started t c.args.line x c.numbers-below.result c.agreeing-positive.result c.agreeing-negative.result c.agreeing-targets.result l
-    c.numbers-below.ensures
-    (λ i il. c.agreeing-positive.ensures i il ∙ ap (beq (bit (get_or s.positive_at x 0) i)) c.has-line.ensures)
-    (λ i il. c.agreeing-negative.ensures i il ∙ ap (beq (bit (get_or s.negative_at x 0) i)) c.has-line-2.ensures)
-    (λ i il. c.agreeing-targets.ensures i il ∙ ap (beq (bit (get_or s.targets_at x 0) i)) (c.has-line-3.ensures ∙ ap (λ (set : ℕ). bit set c.args.line) c.targets.ensures))
+    roles_agree g.K.GateKind.means gates first s started t c.args.line x c.numbers_below.result c.agreeing-positive.result c.agreeing-negative.result c.agreeing-targets.result l
+    c.numbers_below.ensures
+    (λ i il. c.agreeing-positive.ensures i il ∙ ap (beq (bit (get_or s.positive_at x 0) i)) c.has_line.ensures)
+    (λ i il. c.agreeing-negative.ensures i il ∙ ap (beq (bit (get_or s.negative_at x 0) i)) c.has_line-2.ensures)
+    (λ i il. c.agreeing-targets.ensures i il ∙ ap (beq (bit (get_or s.targets_at x 0) i)) (c.has_line-3.ensures ∙ ap (λ (set : ℕ). bit set c.args.line) c.targets.ensures))

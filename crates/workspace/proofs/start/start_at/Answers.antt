@@ -6,11 +6,11 @@ pub returns : goal.returns
 returns g c =
     let k = g.Kind.GateKind.means in
     let gates = (g.S.Store.means c.args.store.now).gates in
-    let f = c.frame-from-frame.result in
-    let is = c.frame-from-frame.ensures in
+    let f = c.frame_from-frame.result in
+    let is = c.frame_from-frame.ensures in
     record {
       frame = is;
-      blockers = blockers_known k gates c.args.first f is c.all-blockers.result c.all-blockers.ensures;
+      blockers = blockers_known k gates c.args.first f is c.all_blockers.result c.all_blockers.ensures;
       positive = roles_known k gates c.args.first f is Positive c.columns.result c.columns.ensures;
       negative = roles_known k gates c.args.first f is Negative c.columns-2.result c.columns-2.ensures;
       targets = roles_known k gates c.args.first f is Target c.columns-3.result c.columns-3.ensures;

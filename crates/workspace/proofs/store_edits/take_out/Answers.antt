@@ -24,11 +24,11 @@ loop-index-preserved g c =
     let there : i - 1 < length places = omega (arith, length-map later f) in
     let next : i - 1 + 1 ≡ i = omega arith in
     let left = without m.gates (drop i places) in
-    let q = c.saturating-add.ensures ∙ sym (get_or-map f later (i - 1) 0 0 here) in
+    let q = c.saturating_add.ensures ∙ sym (get_or-map f later (i - 1) 0 0 here) in
     c.remove.ensures.leaves
-    ∙ ap (λ (s : StoreMeaning). after s (remove_outcome s c.saturating-add.result)) c.loop-index.invariant
-    ∙ removal_leaves (with_gates m left) c.saturating-add.result
-    ∙ ap (λ (n : ℕ). with_gates m (remove (without m.gates (drop n places)) c.saturating-add.result)) (sym next)
+    ∙ ap (λ (s : StoreMeaning). after s (remove_outcome s c.saturating_add.result)) c.loop-index.invariant
+    ∙ removal_leaves (with_gates m left) c.saturating_add.result
+    ∙ ap (λ (n : ℕ). with_gates m (remove (without m.gates (drop n places)) c.saturating_add.result)) (sym next)
     ∙ ap (λ (n : ℕ). with_gates m (remove (without m.gates (drop (i - 1 + 1) places)) n)) q
     ∙ sym (at_drop_more (λ (ps : List ℕ). with_gates m (without m.gates ps)) places (i - 1) 0 there)
 

@@ -10,17 +10,17 @@ use Rattle.workspace.proofs.turning.are_flippable.Goals as goal
 pub loop-gate-init : goal.loop-gate-init
 loop-gate-init g c = refl
 
-pub returns-then-not-is-flippable : goal.returns-then-not-is-flippable
-returns-then-not-is-flippable g c =
+pub returns-then-not-is_flippable : goal.returns-then-not-is_flippable
+returns-then-not-is_flippable g c =
     let k = g.K.GateKind.means in
-    pass_fails (λ x. is_some (k.flipped c.args.flips (directed_gate k c.args.back x))) c.args.gates.now c.loop-gate.gate-index (gate 0 0 0 0) c.loop-gate-test.true c.if-not-is-flippable.ensures
+    pass_fails (λ x. is_some (k.flipped c.args.flips (directed_gate k c.args.back x))) c.args.gates.now c.loop-gate.gate-index (gate 0 0 0 0) c.loop-gate-test.true c.if-not-is_flippable.ensures
     ∙ c.loop-gate.invariant
     ∙ pass_directed k (λ x. is_some (k.flipped c.args.flips x)) c.args.back c.args.gates.now
 
 pub loop-gate-preserved : goal.loop-gate-preserved
 loop-gate-preserved g c =
     let k = g.K.GateKind.means in
-    pass_more (λ x. is_some (k.flipped c.args.flips (directed_gate k c.args.back x))) c.args.gates.now c.loop-gate.gate-index (gate 0 0 0 0) c.loop-gate-test.true c.if-not-is-flippable.ensures
+    pass_more (λ x. is_some (k.flipped c.args.flips (directed_gate k c.args.back x))) c.args.gates.now c.loop-gate.gate-index (gate 0 0 0 0) c.loop-gate-test.true c.if-not-is_flippable.ensures
     ∙ c.loop-gate.invariant
 
 pub returns : goal.returns

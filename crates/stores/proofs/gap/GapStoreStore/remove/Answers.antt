@@ -9,8 +9,8 @@ use Rattle.stores.proofs.Outcomes.{read_told, remove_ok}
 use Rattle.stores.proofs.GapEdits.{around_long, gap_removed, gap_cleared}
 use Rattle.stores.proofs.gap.GapStoreStore.remove.Goals as goal
 
-pub move-gap-self-requires : goal.move-gap-self-requires
-move-gap-self-requires g c =
+pub move_gap-self-requires : goal.move_gap-self-requires
+move_gap-self-requires g c =
     let s = c.args.self.now in
     let xs = s.records.now in
     let m = gap s.lines xs s.front s.back in
@@ -25,7 +25,7 @@ bounds-self-freed g c =
     let m = gap s.lines xs s.front s.back in
     let long = around_long xs s.front s.back s.within in
     let told = read_told m c.args.place c.in-ok-gate.gate c.in-ok-gate.ensures in
-    omega (arith, told.0, long, c.move-gap-self.ensures.keeps.sum, c.move-gap-self.ensures.front, c.move-gap-self.new.self.within)
+    omega (arith, told.0, long, c.move_gap-self.ensures.keeps.sum, c.move_gap-self.ensures.front, c.move_gap-self.new.self.within)
 
 pub overflow-sub-self : goal.overflow-sub-self
 overflow-sub-self g c =
@@ -34,7 +34,7 @@ overflow-sub-self g c =
     let m = gap s.lines xs s.front s.back in
     let long = around_long xs s.front s.back s.within in
     let told = read_told m c.args.place c.in-ok-gate.gate c.in-ok-gate.ensures in
-    omega (arith, told.0, long, c.move-gap-self.ensures.keeps.sum, c.move-gap-self.ensures.front)
+    omega (arith, told.0, long, c.move_gap-self.ensures.keeps.sum, c.move_gap-self.ensures.front)
 
 pub returns : goal.returns
 returns g c =
@@ -44,11 +44,11 @@ returns g c =
     let long = around_long xs s.front s.back s.within in
     let told = read_told m c.args.place c.in-ok-gate.gate c.in-ok-gate.ensures in
     let p = c.args.place in
-    let t = c.move-gap-self.new.self in
+    let t = c.move_gap-self.new.self in
     let ys = t.records.now in
     let b = t.back - 1 in
-    let keeps = c.move-gap-self.ensures.keeps in
-    let front = c.move-gap-self.ensures.front in
+    let keeps = c.move_gap-self.ensures.keeps in
+    let front = c.move_gap-self.ensures.front in
     let ok = remove_ok m p told.0 in
     let is : suc b ≡ t.back = omega (arith, told.0, long, keeps.sum, front) in
     let fits : p + suc b ≤ length ys = omega (arith, is, t.within, front) in
@@ -65,5 +65,5 @@ returns g c =
           ∙ ap (λ (n : ℕ). remove (around_gap ys p n) p) is
           ∙ ap (λ (r : List Gate). remove r p) list)
           ∙ sym (ap (after m) ok);
-      moves = c.move-gap-self.ensures.moved;
+      moves = c.move_gap-self.ensures.moved;
     }

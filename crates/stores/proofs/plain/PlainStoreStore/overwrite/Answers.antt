@@ -18,7 +18,7 @@ returns g c =
     let m = plain s.lines xs s.count in
     let lt = c.if-place-self.false in
     let here : p < length (take s.count xs) = omega (arith, length-take s.count xs, lt, s.within) in
-    let ok = overwrite_ok k m p y (sym c.if-not-is-well-formed.ensures) here in
+    let ok = overwrite_ok k m p y (sym c.if-not-is_well_formed.ensures) here in
     record {
       answers = sym (ap answer ok);
       leaves = ap₂ (λ (n : ℕ) (r : List Gate). in_memory s.lines n r) (length-set xs p y) (take_set_in s.count xs p y) ∙ sym (ap (after m) ok);

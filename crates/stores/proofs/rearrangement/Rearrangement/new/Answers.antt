@@ -16,14 +16,14 @@ sized n t h =
     let parts = and_parts (leb n width) (eqb (length t) n && completes n 0 t) (sym h) in
     (eqb-true (length t) n (and_parts (eqb (length t) n) (completes n 0 t) parts.1).0, leb-true n width parts.0)
 
-pub find-place-requires : goal.find-place-requires
-find-place-requires c = let s = sized c.args.lines c.args.table.now c.if-not-is-rearrangement.ensures in omega (arith, s.0, s.1)
+pub find_place-requires : goal.find_place-requires
+find_place-requires c = let s = sized c.args.lines c.args.table.now c.if-not-is_rearrangement.ensures in omega (arith, s.0, s.1)
 
 pub loop-line-preserved : goal.loop-line-preserved
 loop-line-preserved c =
     let t = c.args.table.now in
     let i = c.loop-line.line in
-    let s = sized c.args.lines t c.if-not-is-rearrangement.ensures in
+    let s = sized c.args.lines t c.if-not-is_rearrangement.ensures in
     let new = c.loop-line.new in
     let old = c.loop-line.old in
     let inv = c.loop-line.invariant in
@@ -31,10 +31,10 @@ loop-line-preserved c =
     let in-old : i < length old = omega (arith, inv.1, c.loop-line-test.true, s.1) in
     let in_table : i < length t = omega (arith, c.loop-line-test.true, s.0) in (
       length-set new i (get_or t i 0) ∙ inv.0,
-      length-set old i c.find-place.result ∙ inv.1,
+      length-set old i c.find_place.result ∙ inv.1,
       take_more_set new i (get_or t i 0) in-new ∙ ap (λ (r : List ℕ). r ++ get_or t i 0 ∷ []) inv.2 ∙ sym (take_more t i 0 in_table),
-      take_more_set old i c.find-place.result in-old
-          ∙ ap₂ (λ (r : List ℕ) (x : ℕ). r ++ x ∷ []) inv.3 c.find-place.ensures
+      take_more_set old i c.find_place.result in-old
+          ∙ ap₂ (λ (r : List ℕ) (x : ℕ). r ++ x ∷ []) inv.3 c.find_place.ensures
           ∙ sym (map_push (place_of t) (counted 0 i) i)
           ∙ ap (map (place_of t)) (ap (λ (n : ℕ). counted 0 i ++ n ∷ []) (let e : i ≡ 0 + i = omega arith in e) ∙ sym (counted_more 0 i)),
     )
@@ -48,7 +48,7 @@ invariant-of-result-2 c =
     let t = c.args.table.now in
     let n = c.args.lines in
     let i = c.loop-line.line in
-    let is = c.if-not-is-rearrangement.ensures in
+    let is = c.if-not-is_rearrangement.ensures in
     let end : i ≡ n = omega (arith, c.loop-line-test.false, c.loop-line.auto.line-end) in
     let same = copied n i t c.loop-line.new end (sized n t is).0 c.loop-line.invariant.2 in (
       ap (rearranges n) same ∙ sym is,
@@ -59,7 +59,7 @@ pub returns : goal.returns
 returns c =
     let t = c.args.table.now in
     let n = c.args.lines in
-    let is = c.if-not-is-rearrangement.ensures in
+    let is = c.if-not-is_rearrangement.ensures in
     let end : c.loop-line.line ≡ n = omega (arith, c.loop-line-test.false, c.loop-line.auto.line-end) in
     record {
       on = ap (λ (b : Bool). cond b n 0) is;

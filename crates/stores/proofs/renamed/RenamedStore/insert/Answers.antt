@@ -22,8 +22,8 @@ returns-then-place-count g c =
     let no = insert_past (V m) p k c.args.gate (omega (arith, long, c.if-place-count.true, c.count.ensures)) in
     record { answers = sym (ap answer no); leaves = sym (ap (after (V m)) no) }
 
-pub returns-then-not-is-well-formed : goal.returns-then-not-is-well-formed
-returns-then-not-is-well-formed g c =
+pub returns-then-not-is_well_formed : goal.returns-then-not-is_well_formed
+returns-then-not-is_well_formed g c =
     let k = g.S.Kind.GateKind.means in
     let s = c.args.self.now in
     let m = g.S.Store.means s.below in
@@ -31,7 +31,7 @@ returns-then-not-is-well-formed g c =
     let f = shown_gate k s.table.lines s.table.new m.lines in
     let p = c.args.place in
     let long = length-map m.gates f in
-    let no-form = sym c.if-not-is-well-formed.ensures in
+    let no-form = sym c.if-not-is_well_formed.ensures in
     let no = insert_unformed (V m) p k c.args.gate (omega (arith, long, c.if-place-count.false, c.count.ensures)) (ap (λ (n : ℕ). k.form n c.args.gate) (sym c.lines.ensures) ∙ no-form) in
     record { answers = sym (ap answer no); leaves = sym (ap (after (V m)) no) }
 
@@ -47,7 +47,7 @@ returns g c =
     let y = c.args.gate in
     let z = c.written-written.result in
     let laws = g.met.S.Kind.GateKind.lawful in
-    let formed : Formed k m.lines y = ap (λ (n : ℕ). k.form n y) (sym c.lines.ensures) ∙ sym c.if-not-is-well-formed.ensures in
+    let formed : Formed k m.lines y = ap (λ (n : ℕ). k.form n y) (sym c.lines.ensures) ∙ sym c.if-not-is_well_formed.ensures in
     let back = written_back laws s.table.lines s.table.new s.table.old s.table.sound s.table.inverse m.lines y formed in
     let below-formed : Formed k m.lines z = subst (Formed k m.lines) (sym c.written-written.ensures) back.0 in
     let same : f z ≡ y = ap f c.written-written.ensures ∙ back.1 in

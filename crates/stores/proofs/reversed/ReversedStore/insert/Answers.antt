@@ -19,13 +19,13 @@ returns-then-place-count g c =
     let no = insert_past (reversed k m) p k c.args.gate (omega (arith, long, c.if-place-count.true, c.count-count.ensures)) in
     record { answers = sym (ap answer no); leaves = sym (ap (after (reversed k m)) no) }
 
-pub returns-then-not-is-well-formed : goal.returns-then-not-is-well-formed
-returns-then-not-is-well-formed g c =
+pub returns-then-not-is_well_formed : goal.returns-then-not-is_well_formed
+returns-then-not-is_well_formed g c =
     let k = g.S.Kind.GateKind.means in
     let m = g.S.Store.means c.args.self.now.below in
     let p = c.args.place in
     let long = backward_long k m.gates in
-    let no-form = sym c.if-not-is-well-formed.ensures in
+    let no-form = sym c.if-not-is_well_formed.ensures in
     let no = insert_unformed (reversed k m) p k c.args.gate (omega (arith, long, c.if-place-count.false, c.count-count.ensures)) (ap (λ (n : ℕ). k.form n c.args.gate) (sym c.lines.ensures) ∙ no-form) in
     record { answers = sym (ap answer no); leaves = sym (ap (after (reversed k m)) no) }
 
@@ -38,7 +38,7 @@ returns g c =
     let y = c.args.gate in
     let z = c.inverse.result in
     let laws = g.met.S.Kind.GateKind.lawful in
-    let formed : Formed k m.lines y = ap (λ (n : ℕ). k.form n y) (sym c.lines.ensures) ∙ sym c.if-not-is-well-formed.ensures in
+    let formed : Formed k m.lines y = ap (λ (n : ℕ). k.form n y) (sym c.lines.ensures) ∙ sym c.if-not-is_well_formed.ensures in
     let below-formed : Formed k m.lines z = subst (Formed k m.lines) (sym c.inverse.ensures) (laws.inverse_formed m.lines y formed) in
     let twice : k.inverse z ≡ y = ap k.inverse c.inverse.ensures ∙ laws.inverse_twice m.lines y formed in
     let le : p ≤ length m.gates = omega (arith, c.if-place-count.false, c.count-count.ensures) in

@@ -44,7 +44,7 @@ returns-then-count-capacity g c =
     let b = g.S.Store.bounded x.below in
     let long = window_long m s n 0 fits in
     let y = c.args.gate in
-    let formed : Formed k m.lines y = ap (λ (l : ℕ). k.form l y) (sym c.lines.ensures) ∙ sym c.if-not-is-well-formed.ensures in
+    let formed : Formed k m.lines y = ap (λ (l : ℕ). k.form l y) (sym c.lines.ensures) ∙ sym c.if-not-is_well_formed.ensures in
     let le : p ≤ n = omega (arith, c.if-place-size.false, c.count-size.ensures, long) in
     let no = insert_full (windowed s n m) p k y (omega (arith, le, long)) formed (omega (arith, c.if-count-capacity.true, c.count.ensures, c.capacity.ensures, long, b.fits)) in
     record { answers = sym (ap answer no); leaves = sym (ap (after (windowed s n m)) no) }
@@ -61,7 +61,7 @@ returns g c =
     let b = g.S.Store.bounded x.below in
     let long = window_long m s n 0 fits in
     let y = c.args.gate in
-    let formed : Formed k m.lines y = ap (λ (l : ℕ). k.form l y) (sym c.lines.ensures) ∙ sym c.if-not-is-well-formed.ensures in
+    let formed : Formed k m.lines y = ap (λ (l : ℕ). k.form l y) (sym c.lines.ensures) ∙ sym c.if-not-is_well_formed.ensures in
     let le : p ≤ n = omega (arith, c.if-place-size.false, c.count-size.ensures, long) in
     let here : s + p ≤ length m.gates = omega (arith, le, fits) in
     let first = c.first-first.ensures in

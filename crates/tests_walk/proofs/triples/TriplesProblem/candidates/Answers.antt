@@ -10,11 +10,11 @@ returns-then-len-eq1 c fits v rest e =
     let k = keyed c.args.key.now in
     let one : length k ≡ 1 = omega arith in
     let h = second c.args.self.now.total k v rest one e in
-    c.numbers-below.ensures v h.0 ∙ lt-ltb v (c.args.start.now + 1) (omega (arith, h.1, fits.first))
+    c.numbers_below.ensures v h.0 ∙ lt-ltb v (c.args.start.now + 1) (omega (arith, h.1, fits.first))
 
 pub returns-else-len-eq1 : goal.returns-else-len-eq1
 returns-else-len-eq1 c fits v rest e =
     let k = keyed c.args.key.now in
     let two : 1 < length k = omega (arith, fits.some) in
     let h = third c.args.self.now.total k v rest two e in
-    c.with-number.ensures v h.0 ∙ ap (λ (t : Bool). t || bit 0 v) (eq-eqb v c.args.note.now (h.1 ∙ sym fits.whole))
+    c.with_number.ensures v h.0 ∙ ap (λ (t : Bool). t || bit 0 v) (eq-eqb v c.args.note.now (h.1 ∙ sym fits.whole))

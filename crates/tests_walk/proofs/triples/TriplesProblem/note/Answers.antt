@@ -13,4 +13,4 @@ returns-else-count-eq0 c sound prefix v e first above =
     let place : length prefix ≡ c.len-count.result - 1 = omega (arith, ap length e, length_push prefix v) in
     let last : c.at.result ≡ v = c.at.ensures ∙ ap (λ (k : List ℕ). get_or k (c.len-count.result - 1) 0) e ∙ get_or_push prefix v 0 (c.len-count.result - 1) place in
     let sum : sum_of (keyed c.args.key.now) ≡ _ = ap sum_of e ∙ sum_push prefix v in
-    omega (arith, last, sum, above, c.saturating-sub.ensures)
+    omega (arith, last, sum, above, c.saturating_sub.ensures)

@@ -43,12 +43,12 @@ returns g c key sound planned =
     let later : o.later ≡ map (λ (d : ℕ). named.first + d) ds = ap (λ (n : ℕ). map (λ (d : ℕ). named.first + d) (take n named.later)) (let z : named.count ≡ named.count - 0 = omega arith in z) in
     let others : map (λ (m : Member). m.gate) ms ≡ drop (length (places o)) turned =
     members_from members c.min-chosen.result count within ∙ ap (drop c.min-chosen.result) gates-same ∙ ap (λ (n : ℕ). drop n turned) chosen in
-    let stored : g.S.Store.means c.put-inverses.new.store ≡ with_gates before.store (after_replacing k before.store.gates e o is.adds) =
-    carried k laws before bounded sound o is (2 ^ 64 - 1) (omega (arith, bounded.fits, bounded.small)) (g.S.Store.means c.take-out.new.store) (g.S.Store.means c.put-inverses.new.store) ds ms later c.take-out.ensures others c.put-inverses.ensures in
+    let stored : g.S.Store.means c.put_inverses.new.store ≡ with_gates before.store (after_replacing k before.store.gates e o is.adds) =
+    carried k laws before bounded sound o is (2 ^ 64 - 1) (omega (arith, bounded.fits, bounded.small)) (g.S.Store.means c.take_out.new.store) (g.S.Store.means c.put_inverses.new.store) ds ms later c.take_out.ensures others c.put_inverses.ensures in
     let listed : named.number < h.shelf.count = omega (arith, is.listed, entries_long h.shelf.entries h.shelf.count (omega (arith, h.shelf.wide, h.shelf.few))) in
     let left : condition_of g.S.Store.means c.if-named-count.self ≡ condition (with_gates before.store (after_replacing k before.store.gates e o is.adds)) (set before.shelf o.number (counted_once (get_or before.shelf o.number no_entry))) =
     elim c.if-named-count.branch [
-      | then-named-count w ↦ ap (condition_of g.S.Store.means) w.self-is ∙ ap₂ condition stored w.count-one.ensures
+      | then-named-count w ↦ ap (condition_of g.S.Store.means) w.self-is ∙ ap₂ condition stored w.count_one.ensures
       | else-named-count w ↦ absurd (let z : ⊥ = omega (arith, w.if-named-count.false, c.count.ensures.value) in z)
     ] in
     record {
@@ -57,6 +57,6 @@ returns g c key sound planned =
       rules = is;
       template = refl;
       place = refl;
-      saves = omega (arith, c.saturating-sub.ensures, many);
+      saves = omega (arith, c.saturating_sub.ensures, many);
       leaves = left;
     }

@@ -28,7 +28,7 @@ returns-in-None g c sound there =
     let is-template : e ≡ (get_or cond-now.shelf (get_or key 1 0) no_entry).template = c.template-template.ensures ∙ ap (λ (n : ℕ). (get_or cond-now.shelf n no_entry).template) c.at-number.ensures in
     let named = c.in-Some.named in
     let same = read_some k cond-now key sound there e is-template named (c.in-Some.ensures ∙ ap (λ (n : ℕ). cond (readable n key) (Some (spelled n key)) None) c.lines.ensures) in
-    let told = c.in-None.ensures cond-now.store.gates c.frame-from-frame.ensures (rules k cond-now key sound there e is-template named same).near (rotates k cond-now key sound there e is-template named same) in
+    let told = c.in-None.ensures cond-now.store.gates c.frame_from-frame.ensures (rules k cond-now key sound there e is-template named same).near (rotates k cond-now key sound there e is-template named same) in
     extended_none k cond-now key sound there e is-template named same (told ∙ ap (λ (n : ℕ). turned_by k e (occurrence_of named) (additions k n cond-now.store.gates e (occurrence_of named))) c.lines-2.ensures)
 
 pub returns-in-Some-extend : goal.returns-in-Some-extend
@@ -40,5 +40,5 @@ returns-in-Some-extend g c sound there =
     let is-template : e ≡ (get_or cond-now.shelf (get_or key 1 0) no_entry).template = c.template-template.ensures ∙ ap (λ (n : ℕ). (get_or cond-now.shelf n no_entry).template) c.at-number.ensures in
     let named = c.in-Some.named in
     let same = read_some k cond-now key sound there e is-template named (c.in-Some.ensures ∙ ap (λ (n : ℕ). cond (readable n key) (Some (spelled n key)) None) c.lines.ensures) in
-    let told = c.in-Some-extend.ensures cond-now.store.gates c.frame-from-frame.ensures (rules k cond-now key sound there e is-template named same).near (rotates k cond-now key sound there e is-template named same) in
+    let told = c.in-Some-extend.ensures cond-now.store.gates c.frame_from-frame.ensures (rules k cond-now key sound there e is-template named same).near (rotates k cond-now key sound there e is-template named same) in
     planned k cond-now key sound there e is-template named same c.in-Some-extend.extended (told ∙ ap (λ (n : ℕ). turned_by k e (occurrence_of named) (additions k n cond-now.store.gates e (occurrence_of named))) c.lines-2.ensures)

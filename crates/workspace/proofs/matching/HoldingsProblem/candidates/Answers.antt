@@ -24,7 +24,7 @@ returns-then-count-eq1 g c fits v rest e =
     let key = keyed c.args.key.now in
     let one : length key ≡ 1 = omega arith in
     let below = next_number k held fits.sound.sound key v (next_of k held key v rest e) one in
-    c.numbers-below.ensures v (omega (arith, below, c.count.ensures.is, c.count.ensures.few)) ∙ lt-ltb v c.count.result (omega (arith, below, c.count.ensures.is))
+    c.numbers_below.ensures v (omega (arith, below, c.count.ensures.is, c.count.ensures.few)) ∙ lt-ltb v c.count.result (omega (arith, below, c.count.ensures.is))
 
 pub returns-then-number-count : goal.returns-then-number-count
 returns-then-number-count g c fits v rest e =
@@ -39,9 +39,9 @@ returns-then-count-lt6 g c fits v rest e =
     let n = next_of k held key v rest e in
     let t = template_of c.template-template.result.now in
     let long = c.len-count.ensures.is in
-    let r = c.next-pose.ensures in
+    let r = c.next_pose.ensures in
     let same = template_is k held key n.o n.begun (omega (arith, fits.some)) t (c.template-template.ensures ∙ ap (λ (i : ℕ). (get_or held.shelf i no_entry).template) c.at-number.ensures) in
-    pose_covers k held fits.sound.sound key v n t c.next-pose.result same (omega (arith, fits.some)) (omega arith)
+    pose_covers k held fits.sound.sound key v n t c.next_pose.result same (omega (arith, fits.some)) (omega arith)
     (λ q. r.shares (long ∙ q)) (λ q. r.directions (long ∙ q)) (λ q. r.rotations (long ∙ q)) (λ q. r.flips (long ∙ q))
 
 pub returns-then-line-lines : goal.returns-then-line-lines
@@ -64,11 +64,11 @@ returns-then-line-lines g c fits v rest e =
     let started = subst (λ (f : ℕ). Started k gates f c.args.start.now) at fits.first in
     let below = line_below k held sound key v n i long inside in
     let note = fits.whole (omega arith) o n.begun in
-    let few : c.saturating-sub-few.result ≡ 8 - get_or key 2 0 = omega (arith, c.saturating-sub-few.ensures, c.at.ensures) in
-    c.next-lines.ensures gates o.first started (omega (arith, c.lines.ensures, bounded.few_lines)) v (omega (arith, below, bounded.few_lines))
+    let few : c.saturating_sub-few.result ≡ 8 - get_or key 2 0 = omega (arith, c.saturating_sub-few.ensures, c.at.ensures) in
+    c.next_lines.ensures gates o.first started (omega (arith, c.lines.ensures, bounded.few_lines)) v (omega (arith, below, bounded.few_lines))
     ∙ and_from (ltb v c.lines.result) _ (lt-ltb v c.lines.result (omega (arith, below, c.lines.ensures)))
     (and_from (not (has_number_lem (drop 6 key) v)) _ (not_from_false (has_number_lem (drop 6 key) v) (line_new k held sound key v n i long inside))
-    (line_possible k held g.met.Kind.GateKind.lawful sound key v n c.args.note.now note c.saturating-sub-few.result i few long inside))
+    (line_possible k held g.met.Kind.GateKind.lawful sound key v n c.args.note.now note c.saturating_sub-few.result i few long inside))
 
 pub returns : goal.returns
 returns g c fits v rest e =
@@ -94,7 +94,7 @@ returns g c fits v rest e =
     ] in
     let h = place_next k held g.met.Kind.GateKind.lawful sound key v n c.args.note.now (fits.whole (omega arith) o n.begun) j c.if-line-lines-2.last long last in
     let few = (meets_rules_lem k held key o n.begun sound).size.1 in
-    c.next-places.ensures k gates o.first started (omega (arith, inside, n.begun.rules.within, few)) v h.0
+    c.next_places.ensures k gates o.first started (omega (arith, inside, n.begun.rules.within, few)) v h.0
     ∙ ap (λ (x : ℕ). bit (get_or c.args.note.now.reached x 0) v && (ltb v (length (frame_at gates o.first)) && (ltb c.if-line-lines-2.last v && movable k (frame_at gates o.first) c.args.note.now.chosen v)))
     (let z : j + 1 ≡ suc j = omega arith in z)
     ∙ h.1

@@ -32,8 +32,8 @@ returns-then-count-eq6 g c sound prefix v is started above six o b =
     let key = keyed c.args.key.now in
     let t = template_of c.template-template.result.now in
     let same = template_is k held key o b (omega arith) t (c.template-template.ensures ∙ ap (λ (i : ℕ). (get_or held.shelf i no_entry).template) c.at-number.ensures) in
-    posed_fits k held sound.sound key prefix v is o b c.posed-note.result _ c.at-then-count-eq6.result c.at-then-count-eq6-2.result t (omega arith) same
-    (ap (λ (x : ℕ). eqb x 1) c.at.ensures) c.at-then-count-eq6.ensures c.at-then-count-eq6-2.ensures c.posed-note.ensures.poses c.posed-note.ensures.reaches c.posed-note.ensures.chooses
+    posed_fits k held sound.sound key prefix v is o b c.posed_note.result _ c.at-then-count-eq6.result c.at-then-count-eq6-2.result t (omega arith) same
+    (ap (λ (x : ℕ). eqb x 1) c.at.ensures) c.at-then-count-eq6.ensures c.at-then-count-eq6-2.ensures c.posed_note.ensures.poses c.posed_note.ensures.reaches c.posed_note.ensures.chooses
 
 pub returns-then-count-lines : goal.returns-then-count-lines
 returns-then-count-lines g c sound prefix v is started above six o b =
@@ -46,11 +46,11 @@ returns-then-count-lines g c sound prefix v is started above six o b =
     let more = one_more k held sound.sound key prefix v is o b in
     let place : length prefix ≡ c.len-count.result - 1 = omega arith in
     let last : c.at-last.result ≡ v = c.at-last.ensures ∙ ap (λ (x : List ℕ). get_or x (c.len-count.result - 1) 0) is ∙ get_or_push prefix v 0 (c.len-count.result - 1) place in
-    let note = c.with-distance.result in
+    let note = c.with_distance.result in
     let old = c.args.above.now in
     let fits = above (omega arith) o (begun_before k held sound.sound key prefix v is o b) in
-    place_fits k held sound.sound key prefix v is o b g.met.Kind.GateKind.lawful old note fits c.with-distance.ensures.poses (omega (arith, c.if-count-lines.true, c.lines.ensures, lines))
-    c.with-distance.ensures.reaches (subst (λ (x : ℕ). IsSet note.chosen (λ d. eqb d x || bit old.chosen d)) last c.with-distance.ensures.chooses)
+    place_fits k held sound.sound key prefix v is o b g.met.Kind.GateKind.lawful old note fits c.with_distance.ensures.poses (omega (arith, c.if-count-lines.true, c.lines.ensures, lines))
+    c.with_distance.ensures.reaches (subst (λ (x : ℕ). IsSet note.chosen (λ d. eqb d x || bit old.chosen d)) last c.with_distance.ensures.chooses)
 
 pub returns-then-last-ge32 : goal.returns-then-last-ge32
 returns-then-last-ge32 g c sound prefix v is started above six o b =

@@ -24,6 +24,6 @@ returns g c fits =
           w.size-is
           ∙ sym (ap (λ (e : EntryMeaning). size e.template) (get_or_past shelf (get_or key 1 0) no_entry (omega (arith, w.if-number-count.false, c.count.ensures.is, c.at-number.ensures))))
     ] in
-    let saves : c.saturating-sub.result ≡ 2 * (8 - get_or key 2 0) - size (get_or shelf (get_or key 1 0) no_entry).template =
-    omega (arith, c.saturating-sub.ensures, c.saturating-sub-chosen.ensures, c.at.ensures, long) in
+    let saves : c.saturating_sub.result ≡ 2 * (8 - get_or key 2 0) - size (get_or shelf (get_or key 1 0) no_entry).template =
+    omega (arith, c.saturating_sub.ensures, c.saturating_sub-chosen.ensures, c.at.ensures, long) in
     λ i. shows (saves i) (c.at-2.ensures i) (c.at-number.ensures i)

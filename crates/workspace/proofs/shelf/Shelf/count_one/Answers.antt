@@ -10,5 +10,5 @@ returns c =
     let s = c.args.self.now in
     let i = c.args.number in
     let fits : s.count ≤ length s.entries = omega (arith, s.wide, s.few) in
-    entries_set s.entries s.count i c.count-one.new.self
-    ∙ ap (set (entries_of s.entries s.count) i) (c.count-one.ensures ∙ ap counted_once (sym (entry_at s.entries s.count i blank_entry no_entry fits c.requires)))
+    entries_set s.entries s.count i c.count_one.new.self
+    ∙ ap (set (entries_of s.entries s.count) i) (c.count_one.ensures ∙ ap counted_once (sym (entry_at s.entries s.count i blank_entry no_entry fits c.requires)))

@@ -16,12 +16,12 @@ loop-found-init g c =
     let before = condition_of g.S.Store.means c.args.self.now.holdings in
     (omega arith, λ sound. record { sweeps = (refl, refl); shortened = unshortened k before sound; below = from_none (OccursIn k before) })
 
-pub returns-then-budget-gt-MOST-BUDGET : goal.returns-then-budget-gt-MOST-BUDGET
-returns-then-budget-gt-MOST-BUDGET g c =
+pub returns-then-budget-gt-MOST_BUDGET : goal.returns-then-budget-gt-MOST_BUDGET
+returns-then-budget-gt-MOST_BUDGET g c =
     let k = g.Kind.GateKind.means in
     let before = condition_of g.S.Store.means c.args.self.now.holdings in
     record {
-      promised = (sym (lt-leb c.args.budget 4096 c.if-budget-gt-MOST-BUDGET.true), λ sound. record { outcome = refl; shortened = unshortened k before sound });
+      promised = (sym (lt-leb c.args.budget 4096 c.if-budget-gt-MOST_BUDGET.true), λ sound. record { outcome = refl; shortened = unshortened k before sound });
       policy = λ sound. refl;
     }
 
@@ -65,7 +65,7 @@ loop-found-preserved g c =
       omega (arith, c.loop-found.invariant.0),
       λ sound.
           stands_more k g.met.Kind.GateKind.lawful rule before here now c.loop-found.replacements c.loop-found.saved c.loop-found.from key c.replace-made.result kept c.in-Some.found.lowest _ _ _
-          (omega (arith, bounded.fits, bounded.small)) c.saturating-add-saved.ensures (c.min-from.ensures ∙ ap (min c.in-Some.found.lowest) c.saturating-sub.ensures)
+          (omega (arith, bounded.fits, bounded.small)) c.saturating_add-saved.ensures (c.min-from.ensures ∙ ap (min c.in-Some.found.lowest) c.saturating_sub.ensures)
           (at sound) (all sound) (c.in-Some.ensures.lowest (ready sound) (at sound).below) (c.replace-made.ensures (at sound).shortened.sound ((all sound).occurs key refl)),
     )
 

@@ -8,15 +8,15 @@ use Rattle.workspace.specs.Proposals.{template_of, proposed}
 use Rattle.workspace.proofs.Calling.{shelve_ok, shelve_sound}
 use Rattle.workspace.proofs.workspace.Workspace.shelve.Goals as goal
 
-pub returns-else-count-ge-MOST-ENTRIES : goal.returns-else-count-ge-MOST-ENTRIES
-returns-else-count-ge-MOST-ENTRIES g c =
+pub returns-else-count-ge-MOST_ENTRIES : goal.returns-else-count-ge-MOST_ENTRIES
+returns-else-count-ge-MOST_ENTRIES g c =
     let k = g.Kind.GateKind.means in
     let w = c.args.self.now in
     let m = g.S.Store.means w.store in
     let es = entries_of w.shelf.entries w.shelf.count in
     let t = proposed c.args.proposal.now in
     let told = c.in-Ok.ensures in
-    let room : length es < 64 = omega (arith, c.if-count-ge-MOST-ENTRIES.false, c.count.ensures.is) in
+    let room : length es < 64 = omega (arith, c.if-count-ge-MOST_ENTRIES.false, c.count.ensures.is) in
     let ok = shelve_ok k m es t (sym told.answers) room in
     let now = c.push.ensures ∙ ap (λ (x : TemplateMeaning). es ++ entry x 0 ∷ []) told.holds in
     record {
