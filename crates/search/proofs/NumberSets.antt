@@ -5,7 +5,7 @@ use Rattle.std.proofs.lemmas.Nat.{shr-shr, one_shl}
 use Rattle.std.proofs.lemmas.Bool.{cases_lt, lt-ltb, le-ltb, ne_eqb}
 use Rattle.gates.specs.Lines.{bit}
 use Rattle.gates.specs.Members.{bit_above, bit_none}
-use Rattle.gates.proofs.Masks.{bit_or, bit_power, bit_not}
+use Rattle.gates.proofs.Masks.{bit-bit_or, bit_power, bit_not}
 
 -- the members of a set that is shifted down
 pub bit_shift : (set base j : ℕ) → bit (set / 2 ^ base) j ≡ bit set (base + j)
@@ -20,7 +20,7 @@ or_comm false false = refl
 
 pub number_added : (set number i : ℕ) → number < 64 → bit (bit_or set ((1 * 2 ^ number) % 2 ^ 64)) i ≡ (eqb i number || bit set i)
 number_added set number i l =
-    bit_or set ((1 * 2 ^ number) % 2 ^ 64) i
+    bit-bit_or set ((1 * 2 ^ number) % 2 ^ 64) i
     ∙ ap (λ (x : ℕ). bit set i || bit x i) (one_shl number 64 l)
     ∙ ap (λ (t : Bool). bit set i || t) (bit_power number i)
     ∙ or_comm (bit set i) (eqb i number)

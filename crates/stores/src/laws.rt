@@ -33,5 +33,5 @@ pub fn check_lines(lines: u8) -> Result<(), StoreRefusal>
 
 // What holds of every store and mount, for every kind.
 pub fn store_laws<K: GateKind>()
-    ensures { StoreLaws means }
+    ensures { StoreLaws K.means }
 {}

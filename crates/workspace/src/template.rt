@@ -95,7 +95,7 @@ impl Template {
         ensures is { result ≡ length (template_of self.now).gates }
         ensures few { result ≤ 8 }
     {
-        self.gates[0..self.size.min(MOST_GATES)].len()
+        self.gates().len()
     }
 
     // Its gates.

@@ -3,18 +3,18 @@ use Rattle.stores.specs.Mounts.{place_of}
 use Rattle.stores.proofs.Rearranging.{place_here, place_further, place_none}
 use Rattle.stores.proofs.rearrangement.find_place.Goals as goal
 
-pub returns-then-new_line : goal.returns-then-new_line
-returns-then-new_line c =
+pub returns-then-new-line : goal.returns-then-new-line
+returns-then-new-line c =
     let t = c.args.table.now in
     let i = c.loop-new.new-index in
-    omega (arith, c.loop-new.invariant.1, place_here t i c.args.line c.loop-new-test.true c.if-new_line.true)
+    omega (arith, c.loop-new.invariant.1, place_here t i c.args.line c.loop-new-test.true c.if-new-line.true)
 
 pub loop-new-preserved : goal.loop-new-preserved
 loop-new-preserved c =
     let t = c.args.table.now in
     let i = c.loop-new.new-index in (
       omega (arith, c.loop-new.invariant.0),
-      omega (arith, c.loop-new.invariant.1, place_further t i c.args.line c.loop-new-test.true c.if-new_line.false),
+      omega (arith, c.loop-new.invariant.1, place_further t i c.args.line c.loop-new-test.true c.if-new-line.false),
     )
 
 pub returns : goal.returns

@@ -23,8 +23,8 @@ loop-place-preserved g c =
           (c.control_member.ensures ∙ ap f (sym (members_at p.members p.count i fits lt)) ∙ sym (get_or-map f xs i no_member no_member (omega arith))),
     )
 
-pub invariant-of-result : goal.invariant-of-result
-invariant-of-result g c = (c.loop-place.invariant.0, (c.args.posed.now.few, tt))
+pub invariant_of-result : goal.invariant_of-result
+invariant_of-result g c = (c.loop-place.invariant.0, (c.args.posed.now.few, tt))
 
 pub returns : goal.returns
 returns g c =

@@ -25,8 +25,8 @@ loop-place-preserved g c =
           ∙ sym (get_or-map (on_gate f) xs i no_member no_member (omega arith))),
     )
 
-pub invariant-of-result : goal.invariant-of-result
-invariant-of-result g c = (c.loop-place.invariant.0, (c.args.posed.now.few, tt))
+pub invariant_of-result : goal.invariant_of-result
+invariant_of-result g c = (c.loop-place.invariant.0, (c.args.posed.now.few, tt))
 
 pub returns : goal.returns
 returns g c =

@@ -40,8 +40,8 @@ loop-number-preserved c =
           (ap (λ (x : Placed). x.position) (members_at p.members p.count i fits lx)) c.find_distance.ensures c.find_gate.ensures),
     )
 
-pub invariant-of-result : goal.invariant-of-result
-invariant-of-result c = let few : c.min-count.result ≤ 8 = omega (arith, c.min-count.ensures, c.args.turned.now.few) in (c.loop-number.invariant.0, (few, tt))
+pub invariant_of-result : goal.invariant_of-result
+invariant_of-result c = let few : c.min-count.result ≤ 8 = omega (arith, c.min-count.ensures, c.args.turned.now.few) in (c.loop-number.invariant.0, (few, tt))
 
 pub returns : goal.returns
 returns c =

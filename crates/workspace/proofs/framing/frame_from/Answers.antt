@@ -17,8 +17,8 @@ loop-distance-preserved g c =
       loaded_more m.gates loaded c.args.first d read room inside (read_inside m (c.args.first + d) c.read.result read inside c.read.ensures c.unwrap_or.ensures) c.loop-distance.invariant.1,
     )
 
-pub invariant-of-result : goal.invariant-of-result
-invariant-of-result g c = (c.loop-distance.invariant.0, (omega (arith, c.min-count.ensures), tt))
+pub invariant_of-result : goal.invariant_of-result
+invariant_of-result g c = (c.loop-distance.invariant.0, (omega (arith, c.min-count.ensures), tt))
 
 pub returns : goal.returns
 returns g c =

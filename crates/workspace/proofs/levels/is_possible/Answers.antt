@@ -24,7 +24,7 @@ loop-place-preserved g c gates first started below =
     let j = c.loop-place.place in
     let is = c.narrowed_set-set.ensures gates first started below in
     possible_more k (frame_at gates first) note c.args.line c.args.x j (c.loop-place.invariant gates first started below)
-    (one_of _ c.narrowed_set-set.result (can_stand k (frame_at gates first) (gate_of_lem note j) c.args.line c.args.x) is c.narrowed_set-set.type-inv c.if-set-eq0.false)
+    (one_of _ c.narrowed_set-set.result (can_stand k (frame_at gates first) (gate_of_lem note j) c.args.line c.args.x) is c.narrowed_set-set.type_inv c.if-set-eq0.false)
 
 pub returns : goal.returns
 returns g c gates first started below =

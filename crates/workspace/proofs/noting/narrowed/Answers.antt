@@ -30,8 +30,8 @@ loop-place-preserved g c =
           ∙ ap (λ (s : ℕ). bit s d && can_stand k (frame_at gates first) (gate_of_lem above i) c.args.line c.args.x d) was),
     )
 
-pub invariant-of-result : goal.invariant-of-result
-invariant-of-result g c = (c.loop-place.invariant.0, tt)
+pub invariant_of-result : goal.invariant_of-result
+invariant_of-result g c = (c.loop-place.invariant.0, tt)
 
 pub returns : goal.returns
 returns g c = record { poses = refl; reaches = λ j gates first l started below. c.loop-place.invariant.2 j (omega (arith, c.loop-place-test.false)) gates first started below; chooses = refl }

@@ -28,8 +28,8 @@ loop-place-preserved g c =
           (c.find_source-position.ensures.is ∙ ap (λ (m : ℕ). source_place m c.args.back c.min-turned.result c.loop-place.place) size) c.pose_gate-gate.ensures,
     )
 
-pub invariant-of-result : goal.invariant-of-result
-invariant-of-result g c = (c.loop-place.invariant.0, (c.size-size.ensures.few, tt))
+pub invariant_of-result : goal.invariant_of-result
+invariant_of-result g c = (c.loop-place.invariant.0, (c.size-size.ensures.few, tt))
 
 pub returns : goal.returns
 returns g c le =

@@ -13,7 +13,7 @@ loop-place-preserved c =
     let selection = c.args.selection in
     let place = c.loop-place.place in
     let found = c.loop-place.selected in
-    let fits : get_or groups place 0 < 2 ^ width = omega (arith, c.type-inv.groups place) in
+    let fits : get_or groups place 0 < 2 ^ width = omega (arith, c.type_inv.groups place) in
     elim c.if-has_position.branch [
       | then-has_position w ↦
           subst (Found groups selection (place + 1)) (sym w.selected-is)

@@ -28,7 +28,7 @@ returns-then-run_chosen-state g c =
     let within : state < 2 ^ lines = omega (arith, c.loop-state-test.true, one_shl lines width few) in
     let narrow : state < 2 ^ width = omega (arith, within, pow_below lines width few) in
     sym (every_fails (2 ^ lines) state (restored k gates chosen) within
-    (agree_other c.run_chosen.result state (run k (picked (bit chosen) gates) (bit state)) c.run_chosen.type-inv narrow c.run_chosen.ensures c.if-run_chosen-state.true))
+    (agree_other c.run_chosen.result state (run k (picked (bit chosen) gates) (bit state)) c.run_chosen.type_inv narrow c.run_chosen.ensures c.if-run_chosen-state.true))
 
 pub returns : goal.returns
 returns g c =

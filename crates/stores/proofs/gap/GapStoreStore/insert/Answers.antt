@@ -13,24 +13,21 @@ pub move_gap-self-requires : goal.move_gap-self-requires
 move_gap-self-requires g c =
     let s = c.args.self.now in omega (arith, c.if-place-count.false, c.count-count.ensures, around_long s.records.now s.front s.back s.within)
 
-pub invariant-of-self-2 : goal.invariant-of-self-2
-invariant-of-self-2 g c =
+pub invariant_of-self-2 : goal.invariant_of-self-2
+invariant_of-self-2 g c =
     let s = c.args.self.now in
     let t = c.move_gap-self.new.self in
     let long = around_long s.records.now s.front s.back s.within in
     let room : s.front + s.back < length s.records.now = omega (arith, c.if-count-capacity.false, c.capacity.ensures, c.count-count.ensures, long) in
     let few : s.front + s.back < 4096 = omega (arith, c.if-count-capacity.false, c.capacity.ensures, c.count-count.ensures, long) in
     let sum = c.move_gap-self.ensures.keeps.sum in
-    let front = c.move_gap-self.ensures.front in (
-      t.some_line,
-      (
-        t.few_lines,
-        (
-          omega (arith, length-set t.records.now c.args.place c.args.gate, c.move_gap-self.ensures.keeps.long, room, sum, front),
-          (omega (arith, few, sum, front), tt),
-        ),
-      ),
-    )
+    let front = c.move_gap-self.ensures.front in
+    record {
+      some_line = t.some_line;
+      few_lines = t.few_lines;
+      within = omega (arith, length-set t.records.now c.args.place c.args.gate, c.move_gap-self.ensures.keeps.long, room, sum, front);
+      few = omega (arith, few, sum, front);
+    }
 
 pub returns : goal.returns
 returns g c =

@@ -15,7 +15,7 @@ move_gap-self-requires g c =
     let xs = s.records.now in
     let m = gap s.lines xs s.front s.back in
     let long = around_long xs s.front s.back s.within in
-    let told = read_told m c.args.place c.in-ok-gate.gate c.in-ok-gate.ensures in
+    let told = read_told m c.args.place c.in_ok-gate.gate c.in_ok-gate.ensures in
     omega (arith, told.0, long)
 
 pub bounds-self-freed : goal.bounds-self-freed
@@ -24,16 +24,16 @@ bounds-self-freed g c =
     let xs = s.records.now in
     let m = gap s.lines xs s.front s.back in
     let long = around_long xs s.front s.back s.within in
-    let told = read_told m c.args.place c.in-ok-gate.gate c.in-ok-gate.ensures in
+    let told = read_told m c.args.place c.in_ok-gate.gate c.in_ok-gate.ensures in
     omega (arith, told.0, long, c.move_gap-self.ensures.keeps.sum, c.move_gap-self.ensures.front, c.move_gap-self.new.self.within)
 
-pub overflow-sub-self : goal.overflow-sub-self
-overflow-sub-self g c =
+pub overflow_sub-self : goal.overflow_sub-self
+overflow_sub-self g c =
     let s = c.args.self.now in
     let xs = s.records.now in
     let m = gap s.lines xs s.front s.back in
     let long = around_long xs s.front s.back s.within in
-    let told = read_told m c.args.place c.in-ok-gate.gate c.in-ok-gate.ensures in
+    let told = read_told m c.args.place c.in_ok-gate.gate c.in_ok-gate.ensures in
     omega (arith, told.0, long, c.move_gap-self.ensures.keeps.sum, c.move_gap-self.ensures.front)
 
 pub returns : goal.returns
@@ -42,7 +42,7 @@ returns g c =
     let xs = s.records.now in
     let m = gap s.lines xs s.front s.back in
     let long = around_long xs s.front s.back s.within in
-    let told = read_told m c.args.place c.in-ok-gate.gate c.in-ok-gate.ensures in
+    let told = read_told m c.args.place c.in_ok-gate.gate c.in_ok-gate.ensures in
     let p = c.args.place in
     let t = c.move_gap-self.new.self in
     let ys = t.records.now in

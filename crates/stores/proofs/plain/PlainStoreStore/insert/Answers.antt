@@ -35,19 +35,16 @@ loop-at-preserved g c =
       length-set ys at (get_or ys (at - 1) (gate 0 0 0 0)) ∙ c.loop-at.invariant.4,
     )
 
-pub invariant-of-self-2 : goal.invariant-of-self-2
-invariant-of-self-2 g c =
+pub invariant_of-self-2 : goal.invariant_of-self-2
+invariant_of-self-2 g c =
     let s = c.args.self.now in
-    let room : s.count < length s.records.now = omega (arith, c.if-count-capacity.false, c.capacity.ensures) in (
-      c.loop-at.self.some_line,
-      (
-        c.loop-at.self.few_lines,
-        (
-          omega (arith, length-set c.loop-at.self.records.now c.args.place c.args.gate, c.loop-at.invariant.4, room),
-          (omega (arith, c.if-count-capacity.false, c.capacity.ensures), tt),
-        ),
-      ),
-    )
+    let room : s.count < length s.records.now = omega (arith, c.if-count-capacity.false, c.capacity.ensures) in
+    record {
+      some_line = c.loop-at.self.some_line;
+      few_lines = c.loop-at.self.few_lines;
+      within = omega (arith, length-set c.loop-at.self.records.now c.args.place c.args.gate, c.loop-at.invariant.4, room);
+      few = omega (arith, c.if-count-capacity.false, c.capacity.ensures);
+    }
 
 pub returns : goal.returns
 returns g c =

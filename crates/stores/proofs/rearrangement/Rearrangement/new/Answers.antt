@@ -6,9 +6,9 @@ use Rattle.stores.specs.Mounts.{completes, rearranges, place_of, inverse_of}
 use Rattle.stores.proofs.Rearranging.{counted_more}
 use Rattle.stores.proofs.rearrangement.Rearrangement.new.Goals as goal
 
-pub invariant-of-result : goal.invariant-of-result
+pub invariant_of-result : goal.invariant_of-result
 unfolding every_below
-invariant-of-result c = (refl, (refl, tt))
+invariant_of-result c = record { sound = refl; inverse = refl }
 
 -- a rearrangement has as many entries as there are lines, and there are few
 sized : (n : ℕ) (t : List ℕ) → true ≡ rearranges n t → (length t ≡ n) × (n ≤ width)
@@ -43,17 +43,18 @@ loop-line-preserved c =
 copied : (n i : ℕ) (t new : List ℕ) → i ≡ n → length t ≡ n → take i new ≡ take i t → take n new ≡ t
 copied n i t new end long same = ap (λ (j : ℕ). take j new) (sym end) ∙ same ∙ ap (λ (j : ℕ). take j t) end ∙ take_all n t (omega arith)
 
-pub invariant-of-result-2 : goal.invariant-of-result-2
-invariant-of-result-2 c =
+pub invariant_of-result-2 : goal.invariant_of-result-2
+invariant_of-result-2 c =
     let t = c.args.table.now in
     let n = c.args.lines in
     let i = c.loop-line.line in
     let is = c.if-not-is_rearrangement.ensures in
     let end : i ≡ n = omega (arith, c.loop-line-test.false, c.loop-line.auto.line-end) in
-    let same = copied n i t c.loop-line.new end (sized n t is).0 c.loop-line.invariant.2 in (
-      ap (rearranges n) same ∙ sym is,
-      (ap (λ (j : ℕ). take j c.loop-line.old) (sym end) ∙ c.loop-line.invariant.3 ∙ ap (λ (j : ℕ). map (place_of t) (counted 0 j)) end ∙ ap (inverse_of n) (sym same), tt),
-    )
+    let same = copied n i t c.loop-line.new end (sized n t is).0 c.loop-line.invariant.2 in
+    record {
+      sound = ap (rearranges n) same ∙ sym is;
+      inverse = ap (λ (j : ℕ). take j c.loop-line.old) (sym end) ∙ c.loop-line.invariant.3 ∙ ap (λ (j : ℕ). map (place_of t) (counted 0 j)) end ∙ ap (inverse_of n) (sym same);
+    }
 
 pub returns : goal.returns
 returns c =

@@ -30,6 +30,6 @@ returns g c =
     let f = shown_gate k s.table.lines s.table.new m.lines in
     let p = c.args.place in
     let long = length-map m.gates f in
-    let told = read_told m p c.in-ok-gate.gate c.in-ok-gate.ensures in
+    let told = read_told m p c.in_ok-gate.gate c.in_ok-gate.ensures in
     ap Ok (c.shown.ensures ∙ ap f told.1 ∙ sym (get_or-map f m.gates p (gate 0 0 0 0) (gate 0 0 0 0) told.0))
     ∙ sym (read_ok (V m) p (omega (arith, told.0, long)))

@@ -32,9 +32,9 @@ returns g c =
     let f = F m.lines in
     let p = c.args.place in
     let long = length-map m.gates f in
-    let y = c.in-ok-gate.gate in
+    let y = c.in_ok-gate.gate in
     let lt : p < length m.gates = omega (arith, c.if-place-count.false, c.count.ensures) in
-    let told = c.in-ok-gate.ensures in
+    let told = c.in_ok-gate.ensures in
     let lines : (g.S.Store.means c.remove.new.self).lines ≡ m.lines = ap (λ (x : StoreMeaning). x.lines) (told.leaves ∙ ap (after m) (remove_ok m p lt)) in
     let both =
     remove_through k V m p p f (omega (arith, lt, long)) lt (get_or-map f m.gates p (gate 0 0 0 0) (gate 0 0 0 0) lt) (ap (with_gates m) (removed_map f m.gates p)) y told.answers in

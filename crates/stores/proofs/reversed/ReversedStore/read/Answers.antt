@@ -25,7 +25,7 @@ returns g c =
     let p = c.args.place in
     let long = backward_long k m.gates in
     let n = c.count-count.result in
-    let told = read_told m (n - 1 - p) c.in-ok-gate.gate c.in-ok-gate.ensures in
+    let told = read_told m (n - 1 - p) c.in_ok-gate.gate c.in_ok-gate.ensures in
     let lt : p < length m.gates = omega (arith, c.if-place-count.false, c.count-count.ensures) in
     ap Ok (c.inverse.ensures ∙ ap k.inverse (told.1 ∙ ap (λ (i : ℕ). get_or m.gates (i - 1 - p) (gate 0 0 0 0)) c.count-count.ensures) ∙ sym (read_backward k m.gates p (gate 0 0 0 0) lt))
     ∙ sym (read_ok (reversed k m) p (omega (arith, lt, long)))

@@ -25,11 +25,11 @@ returns g c =
     let m = g.S.Store.means c.args.self.now.below in
     let p = c.args.place in
     let long = backward_long k m.gates in
-    let y = c.in-ok-gate.gate in
+    let y = c.in_ok-gate.gate in
     let lt : p < length m.gates = omega (arith, c.if-place-count.false, c.count-count.ensures) in
     let q = length m.gates - 1 - p in
     let place : c.count-count.result - 1 - p ≡ q = ap (λ (n : ℕ). n - 1 - p) c.count-count.ensures in
-    let told = c.in-ok-gate.ensures in
+    let told = c.in_ok-gate.ensures in
     let both =
     remove_through k (reversed k) m p q k.inverse (omega (arith, lt, long)) (omega (arith, lt)) (read_backward k m.gates p (gate 0 0 0 0) lt)
     (ap (with_gates m) (removed_backward k m.gates p (gate 0 0 0 0) lt)) y (told.answers ∙ ap (λ (i : ℕ). answer (remove_outcome m i)) place) in

@@ -9,8 +9,8 @@ use Rattle.std.proofs.lemmas.List.{length-set}
 use Rattle.stores.proofs.Windows.{rewindow, window_long, window_at, window_set, window_inserted, window_removed}
 use Rattle.stores.proofs.window.WindowStore.capacity.Goals as goal
 
-pub overflow-sub-result : goal.overflow-sub-result
-overflow-sub-result g c =
+pub overflow_sub-result : goal.overflow_sub-result
+overflow_sub-result g c =
     let x = c.args.self.now in
     let m = g.S.Store.means x.below in
     let s = start_in m x.start in

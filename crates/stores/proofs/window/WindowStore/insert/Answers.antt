@@ -10,8 +10,8 @@ use Rattle.stores.proofs.Windows.{rewindow, window_long, window_at, window_set, 
 use Rattle.stores.proofs.Outcomes.{insert_ok, insert_full}
 use Rattle.stores.proofs.window.WindowStore.insert.Goals as goal
 
-pub overflow-add-first : goal.overflow-add-first
-overflow-add-first g c =
+pub overflow_add-first : goal.overflow_add-first
+overflow_add-first g c =
     let x = c.args.self.now in
     let m = g.S.Store.means x.below in
     let s = start_in m x.start in
@@ -21,8 +21,8 @@ overflow-add-first g c =
     let long = window_long m s n 0 fits in
     omega (arith, c.first-first.ensures, long, c.count-size.ensures, c.if-place-size.false, b.fits, b.small)
 
-pub overflow-add-self : goal.overflow-add-self
-overflow-add-self g c =
+pub overflow_add-self : goal.overflow_add-self
+overflow_add-self g c =
     let x = c.args.self.now in
     let m = g.S.Store.means x.below in
     let s = start_in m x.start in

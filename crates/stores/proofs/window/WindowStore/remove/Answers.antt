@@ -10,8 +10,8 @@ use Rattle.stores.proofs.Windows.{rewindow, window_long, window_at, window_set, 
 use Rattle.stores.proofs.Outcomes.{remove_ok}
 use Rattle.stores.proofs.window.WindowStore.remove.Goals as goal
 
-pub overflow-add-first : goal.overflow-add-first
-overflow-add-first g c =
+pub overflow_add-first : goal.overflow_add-first
+overflow_add-first g c =
     let x = c.args.self.now in
     let m = g.S.Store.means x.below in
     let s = start_in m x.start in
