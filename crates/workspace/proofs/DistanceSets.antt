@@ -7,7 +7,7 @@ use Rattle.std.proofs.lemmas.List.{get_or-set_same, get_or-set_other}
 use Rattle.std.proofs.lemmas.Bool.{cases_lt, cases_order, lt-ltb, le-ltb, eq-eqb, ne_eqb, eqb-true, and_from, and_right}
 use Rattle.gates.specs.Lines.{bit, every_below}
 use Rattle.gates.specs.Members.{bit_none, set_ext, every_of, every_at}
-use Rattle.gates.proofs.Masks.{bit_and, bit_not}
+use Rattle.gates.proofs.Masks.{bit-bit_and, bit_not}
 use Rattle.gates.specs.ControlSets.{iff_same}
 use Rattle.workspace.specs.Starts.{IsSet, within}
 
@@ -73,7 +73,7 @@ none_outside set other ls lo = iff_same _ _
     (λ i l. outside i l ∙ none (bit set i) (bit other i) (every_at 64 (λ i. bit other i || not (bit set i)) h i l) ∙ sym (bit_none i))))
   where
     outside : (i : ℕ) → i < 64 → bit (bit_and set (2 ^ 64 - 1 - other)) i ≡ (bit set i && not (bit other i))
-    outside i l = bit_and set (2 ^ 64 - 1 - other) i ∙ ap (λ (b : Bool). bit set i && b) (bit_not 64 other i lo l)
+    outside i l = bit-bit_and set (2 ^ 64 - 1 - other) i ∙ ap (λ (b : Bool). bit set i && b) (bit_not 64 other i lo l)
 
     one : (x y : Bool) → (x && not y) ≡ false → (y || not x) ≡ true
     one true true e = refl

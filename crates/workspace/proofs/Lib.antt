@@ -33,7 +33,6 @@ pub mod Extends
 pub mod Flips
 pub mod Spelling
 pub mod PlannedKeys
-pub mod Enumerating
 pub mod KeyNexts
 pub mod KeyNotes
 pub mod Passing

@@ -7,7 +7,7 @@ use Rattle.gates.specs.declared.gate.Gate.{Gate}
 use Rattle.gates.specs.Lines.{bit, every_below}
 use Rattle.gates.specs.Kinds.{KindMeaning}
 use Rattle.gates.specs.Members.{every_of, every_at}
-use Rattle.gates.proofs.Masks.{bit_and}
+use Rattle.gates.proofs.Masks.{bit-bit_and}
 use Rattle.gates.specs.ControlSets.{iff_same}
 use Rattle.workspace.specs.declared.frame.Frame.{Frame}
 use Rattle.workspace.specs.declared.role.Role.{Role}
@@ -80,10 +80,10 @@ module _ (k : KindMeaning) (gates : List Gate) (first : ℕ) (start : Start) (st
       → IsSet targets (λ i. beq (bit (get_or start.targets_at x 0) i) (bit (k.targets t) line))
       → IsSet (bit_and all (bit_and positive (bit_and negative targets))) (λ d. ltb d (length (frame_at gates first)) && same_role k t line (at_distance (frame_at gates first) d) x)
   roles_agree t line x all positive negative targets xl a p n q i il =
-      bit_and all _ i
+      bit-bit_and all _ i
       ∙ ap₂ ◌&&◌ (a i il ∙ ap (ltb i) count_known)
-      (bit_and positive _ i ∙ ap₂ ◌&&◌ (p i il ∙ ap (λ (b : Bool). beq b (bit t.positive line)) (started.positive x xl i il))
-      (bit_and negative _ i ∙ ap₂ ◌&&◌ (n i il ∙ ap (λ (b : Bool). beq b (bit t.negative line)) (started.negative x xl i il)) (q i il ∙ ap (λ (b : Bool). beq b (bit (k.targets t) line)) (started.targets x xl i il))))
+      (bit-bit_and positive _ i ∙ ap₂ ◌&&◌ (p i il ∙ ap (λ (b : Bool). beq b (bit t.positive line)) (started.positive x xl i il))
+      (bit-bit_and negative _ i ∙ ap₂ ◌&&◌ (n i il ∙ ap (λ (b : Bool). beq b (bit t.negative line)) (started.negative x xl i il)) (q i il ∙ ap (λ (b : Bool). beq b (bit (k.targets t) line)) (started.targets x xl i il))))
       ∙ inside (ltb i (length (frame_at gates first))) (bit w.positive x) (bit w.negative x) (bit (k.targets w) x) (bit t.positive line) (bit t.negative line) (bit (k.targets t) line)
     where
       w : Gate

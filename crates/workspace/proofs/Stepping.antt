@@ -10,7 +10,7 @@ use Rattle.gates.specs.Lines.{State, width, bit, where_below, every_below}
 use Rattle.gates.specs.Kinds.{KindMeaning}
 use Rattle.gates.specs.Cascades.{run, picked}
 use Rattle.gates.specs.Members.{bit_none, set_ext, bit_where, where_lt, every_at, every_of}
-use Rattle.gates.proofs.Masks.{bit_or, bit_not}
+use Rattle.gates.proofs.Masks.{bit-bit_or, bit_not}
 use Rattle.workspace.specs.Templates.{TemplateMeaning, size, in_selected, outside_selected, unselected}
 use Rattle.workspace.specs.TemplateTests.{agree, all_pass, restores_test, whole_test}
 use Rattle.workspace.proofs.Extending.{selected_none}
@@ -66,7 +66,7 @@ module _ (groups : List ℕ) (selection place found : ℕ) (lt : place < length 
   found_more fits e = record {
     small = or_lt width found (get_or groups place 0) before.small fits;
     is = λ p.
-        ap (λ (b : Bool). b || rest p) (bit_or found (get_or groups place 0) p)
+        ap (λ (b : Bool). b || rest p) (bit-bit_or found (get_or groups place 0) p)
         ∙ or_assoc (bit found p) (bit (get_or groups place 0) p) (rest p)
         ∙ ap (λ (b : Bool). bit found p || ((b && bit (get_or groups place 0) p) || rest p)) e
         ∙ step p;

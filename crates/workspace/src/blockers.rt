@@ -9,7 +9,7 @@ use search::candidates;
 // The distances of the gates that block the one at this distance.
 fn blockers_of<K: GateKind>(frame: &Frame, distance: usize) -> u64
     requires { distance < 32 }
-    ensures { IsSet result (blocks means frame.now.gates distance) }
+    ensures { IsSet result (blocks K.means frame.now.gates distance) }
 {
     let mut blockers = 0;
     for before in 0..distance {
@@ -22,7 +22,7 @@ fn blockers_of<K: GateKind>(frame: &Frame, distance: usize) -> u64
 
 // For each gate of the frame the distances of those that block it.
 pub(crate) fn all_blockers<K: GateKind>(frame: &Frame) -> [u64; REACH]
-    ensures { (d : ℕ) → d < frame.now.count → IsSet (slice_index result d) (blocks means frame.now.gates d) }
+    ensures { (d : ℕ) → d < frame.now.count → IsSet (slice_index result d) (blocks K.means frame.now.gates d) }
 {
     let mut all = [0; REACH];
     for distance in 0..frame.count {

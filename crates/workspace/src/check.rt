@@ -9,7 +9,7 @@ use gates::{GateKind, GateRefusal};
 
 // Why the proposal is refused, if it is: the first rule that it breaks.
 fn find_refusal<K: GateKind>(proposal: &Proposal) -> Option<TemplateRefusal>
-    ensures { result ≡ template_test means (proposed proposal.now) }
+    ensures { result ≡ template_test K.means (proposed proposal.now) }
 {
     if !rules::are_lines_few(proposal) {
         return Some(TemplateRefusal::Lines);
@@ -34,9 +34,9 @@ fn find_refusal<K: GateKind>(proposal: &Proposal) -> Option<TemplateRefusal>
 
 // The template that is proposed, where it meets the rules; else the refusal of the first rule that it breaks.
 pub fn check_proposal<K: GateKind>(proposal: &Proposal) -> Result<Template, TemplateRefusal>
-    ensures answers { result_err result ≡ template_test means (proposed proposal.now) }
+    ensures answers { result_err result ≡ template_test K.means (proposed proposal.now) }
     ensures holds { IfOk result (λ t. template_of t ≡ proposed proposal.now) }
-    ensures lawful { AnswersRules means (proposed proposal.now) (result_err result) }
+    ensures lawful { AnswersRules K.means (proposed proposal.now) (result_err result) }
 {
     match find_refusal::<K>(proposal) {
         Some(refusal) => Err(refusal),
@@ -46,5 +46,5 @@ pub fn check_proposal<K: GateKind>(proposal: &Proposal) -> Result<Template, Temp
 
 // The laws of the rules: each test decides its rule, for every kind.
 pub fn rule_laws<K: GateKind>()
-    ensures { RuleLaws means }
+    ensures { RuleLaws K.means }
 {}

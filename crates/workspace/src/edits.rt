@@ -13,9 +13,9 @@ use stores::{Store, StoreRefusal};
 impl<S: Store, P: Policy> Workspace<S, P> {
     // Puts a gate at the end of the list.
     pub fn append(&mut self, gate: Gate) -> Result<(), StoreRefusal>
-        ensures answers { result ≡ answer (append_outcome Kind-as-GateKind.means (condition (S.Store.means self.old.store) (entries_of self.old.shelf.entries self.old.shelf.count)) gate) }
-        ensures leaves { condition (S.Store.means self.new.store) (entries_of self.new.shelf.entries self.new.shelf.count) ≡ after (condition (S.Store.means self.old.store) (entries_of self.old.shelf.entries self.old.shelf.count)) (append_outcome Kind-as-GateKind.means (condition (S.Store.means self.old.store) (entries_of self.old.shelf.entries self.old.shelf.count)) gate) }
-        ensures sound { Sound Kind-as-GateKind.means (condition (S.Store.means self.old.store) (entries_of self.old.shelf.entries self.old.shelf.count)) → Sound Kind-as-GateKind.means (condition (S.Store.means self.new.store) (entries_of self.new.shelf.entries self.new.shelf.count)) }
+        ensures answers { result ≡ answer (append_outcome S.Kind.GateKind.means (condition (S.Store.means self.old.store) (entries_of self.old.shelf.entries self.old.shelf.count)) gate) }
+        ensures leaves { condition (S.Store.means self.new.store) (entries_of self.new.shelf.entries self.new.shelf.count) ≡ after (condition (S.Store.means self.old.store) (entries_of self.old.shelf.entries self.old.shelf.count)) (append_outcome S.Kind.GateKind.means (condition (S.Store.means self.old.store) (entries_of self.old.shelf.entries self.old.shelf.count)) gate) }
+        ensures sound { Sound S.Kind.GateKind.means (condition (S.Store.means self.old.store) (entries_of self.old.shelf.entries self.old.shelf.count)) → Sound S.Kind.GateKind.means (condition (S.Store.means self.new.store) (entries_of self.new.shelf.entries self.new.shelf.count)) }
     {
         let place = self.store.count();
         self.store.insert(place, gate)
@@ -23,9 +23,9 @@ impl<S: Store, P: Policy> Workspace<S, P> {
 
     // Puts a template at the end of the shelf, its count 0, where it meets the rules.
     pub fn shelve(&mut self, proposal: &Proposal) -> Result<(), TemplateRefusal>
-        ensures answers { result ≡ answer (shelve_outcome Kind-as-GateKind.means (condition (S.Store.means self.old.store) (entries_of self.old.shelf.entries self.old.shelf.count)) (proposed proposal.now)) }
-        ensures leaves { condition (S.Store.means self.new.store) (entries_of self.new.shelf.entries self.new.shelf.count) ≡ after (condition (S.Store.means self.old.store) (entries_of self.old.shelf.entries self.old.shelf.count)) (shelve_outcome Kind-as-GateKind.means (condition (S.Store.means self.old.store) (entries_of self.old.shelf.entries self.old.shelf.count)) (proposed proposal.now)) }
-        ensures sound { Sound Kind-as-GateKind.means (condition (S.Store.means self.old.store) (entries_of self.old.shelf.entries self.old.shelf.count)) → Sound Kind-as-GateKind.means (condition (S.Store.means self.new.store) (entries_of self.new.shelf.entries self.new.shelf.count)) }
+        ensures answers { result ≡ answer (shelve_outcome S.Kind.GateKind.means (condition (S.Store.means self.old.store) (entries_of self.old.shelf.entries self.old.shelf.count)) (proposed proposal.now)) }
+        ensures leaves { condition (S.Store.means self.new.store) (entries_of self.new.shelf.entries self.new.shelf.count) ≡ after (condition (S.Store.means self.old.store) (entries_of self.old.shelf.entries self.old.shelf.count)) (shelve_outcome S.Kind.GateKind.means (condition (S.Store.means self.old.store) (entries_of self.old.shelf.entries self.old.shelf.count)) (proposed proposal.now)) }
+        ensures sound { Sound S.Kind.GateKind.means (condition (S.Store.means self.old.store) (entries_of self.old.shelf.entries self.old.shelf.count)) → Sound S.Kind.GateKind.means (condition (S.Store.means self.new.store) (entries_of self.new.shelf.entries self.new.shelf.count)) }
     {
         match check_proposal::<S::Kind>(proposal) {
             Err(refusal) => Err(refusal),

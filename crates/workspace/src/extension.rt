@@ -28,7 +28,7 @@ const BLANK: Gate = Gate {
 
 // The gates on the new lines of a table.
 fn rename<K: GateKind>(posed: &Posed, table: &[u8]) -> Posed
-    ensures { members_of result.members result.count ≡ map (on_gate (means.renamed table.now)) (members_of posed.now.members posed.now.count) }
+    ensures { members_of result.members result.count ≡ map (on_gate (K.means.renamed table.now)) (members_of posed.now.members posed.now.count) }
 {
     let mut members = posed.members;
     for place in 0..posed.count {
@@ -47,7 +47,7 @@ fn rename<K: GateKind>(posed: &Posed, table: &[u8]) -> Posed
 // The template turned, each gate with its position.
 fn turn_template<K: GateKind>(template: &Template, named: &Named) -> Posed
     ensures { named.now.rotation ≤ length (template_of template.now).gates
-        → members_of result.members result.count ≡ turned means (occurrence_of named.now).turn (placed (template_of template.now).gates) }
+        → members_of result.members result.count ≡ turned K.means (occurrence_of named.now).turn (placed (template_of template.now).gates) }
 {
     let posed = pose::<K>(template, named.back, named.rotation, named.flips);
     rename::<K>(&posed, &named.table[0..named.lines])
@@ -100,7 +100,7 @@ fn control_member<K: GateKind>(
     sign: Sign,
 ) -> Member
     ensures { at_position result.position result.gate
-        ≡ controlled_in means groups.now record { line = line; sign = sign; group = group } (at_position member.position member.gate) }
+        ≡ controlled_in K.means groups.now record { line = line; sign = sign; group = group } (at_position member.position member.gate) }
 {
     if is_member(groups, group, member.position) {
         return Member {
@@ -120,7 +120,7 @@ fn control_group<K: GateKind>(
     sign: Sign,
 ) -> Posed
     ensures { members_of result.members result.count
-        ≡ map (controlled_in means groups.now record { line = line; sign = sign; group = group }) (members_of posed.now.members posed.now.count) }
+        ≡ map (controlled_in K.means groups.now record { line = line; sign = sign; group = group }) (members_of posed.now.members posed.now.count) }
 {
     let mut members = posed.members;
     for place in 0..posed.count {
@@ -141,7 +141,7 @@ fn add_controls<K: GateKind>(
     groups: &[PositionSet],
 ) -> Option<Posed>
     ensures { posed_of result
-        ≡ extended_by means groups.now (members_of turned.now.members turned.now.count)
+        ≡ extended_by K.means groups.now (members_of turned.now.members turned.now.count)
         (gathered (asks table.now groups.now (members_of chosen.now.members chosen.now.count)) lines) }
 {
     let mut extended = *turned;
@@ -167,8 +167,8 @@ pub(crate) fn extend<K: GateKind>(
     ensures { (gates : List GateMeaning) → take frame.now.count frame.now.gates ≡ frame_at gates named.now.first
         → AllByRecursion (λ q. q ≤ named.now.first + 31) (occurrence_of named.now).later
         → named.now.rotation ≤ length (template_of template.now).gates
-        → posed_of result ≡ turned_by means (template_of template.now) (occurrence_of named.now)
-        (additions means lines gates (template_of template.now) (occurrence_of named.now)) }
+        → posed_of result ≡ turned_by K.means (template_of template.now) (occurrence_of named.now)
+        (additions K.means lines gates (template_of template.now) (occurrence_of named.now)) }
 {
     let turned = turn_template::<K>(template, named);
     let chosen = stand_beside(&turned, frame, named);

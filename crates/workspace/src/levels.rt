@@ -72,7 +72,7 @@ fn is_mapped(key: &Key, x: u8) -> bool
 
 // Whether each of the first few gates can still stand somewhere, where line x is the image of the line.
 fn is_possible<K: GateKind>(start: &Start, note: &Note, few: usize, line: u8, x: u8) -> bool
-    ensures { (gates : List A-gate) (first : ℕ) → Started means gates first start.now → x < 32 → result ≡ possible means (frame_at gates first) note.now (min few 8) line x }
+    ensures { (gates : List A-gate) (first : ℕ) → Started K.means gates first start.now → x < 32 → result ≡ possible K.means (frame_at gates first) note.now (min few 8) line x }
 {
     for place in 0..few.min(8) {
         let set = narrowed_set::<K>(
@@ -98,8 +98,8 @@ pub(crate) fn next_lines<K: GateKind>(
     line: u8,
     lines: u8,
 ) -> u64
-    ensures { (gates : List A-gate) (first : ℕ) → Started means gates first start.now → lines ≤ 32
-        → IsSet result (λ x. nat_lt x lines && (not (has_number_lem (drop 6 (keyed key.now)) x) && possible means (frame_at gates first) note.now (min few 8) line x)) }
+    ensures { (gates : List A-gate) (first : ℕ) → Started K.means gates first start.now → lines ≤ 32
+        → IsSet result (λ x. nat_lt x lines && (not (has_number_lem (drop 6 (keyed key.now)) x) && possible K.means (frame_at gates first) note.now (min few 8) line x)) }
 {
     let mut set = 0;
     for x in 0..lines {

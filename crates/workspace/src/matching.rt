@@ -25,11 +25,11 @@ impl<S: Store> Problem for Holdings<S> {
 
     type Note = Note;
 
-    ghost sound = { λ h. Searchable Kind-as-GateKind.means (condition_of S.Store.means h) };
+    ghost sound = { λ h. Searchable S.Kind.GateKind.means (condition_of S.Store.means h) };
 
-    ghost occurring = { λ h. OccursIn Kind-as-GateKind.means (condition_of S.Store.means h) };
+    ghost occurring = { λ h. OccursIn S.Kind.GateKind.means (condition_of S.Store.means h) };
 
-    ghost test = { λ h. occurs_in_test Kind-as-GateKind.means (condition_of S.Store.means h) };
+    ghost test = { λ h. occurs_in_test S.Kind.GateKind.means (condition_of S.Store.means h) };
 
     ghost decides = { λ h searchable. searchable.decides };
 
@@ -37,9 +37,9 @@ impl<S: Store> Problem for Holdings<S> {
 
     ghost view = { λ h. shown_of (condition_of S.Store.means h).shelf };
 
-    ghost started = { λ h first start. Started Kind-as-GateKind.means (S.Store.means h.store).gates first start };
+    ghost started = { λ h first start. Started S.Kind.GateKind.means (S.Store.means h.store).gates first start };
 
-    ghost noted = { λ h. Noted Kind-as-GateKind.means (condition_of S.Store.means h) };
+    ghost noted = { λ h. Noted S.Kind.GateKind.means (condition_of S.Store.means h) };
 
     fn starts(&self) -> usize {
         self.store.count()

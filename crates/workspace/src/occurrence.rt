@@ -7,6 +7,6 @@ use gates::GateKind;
 // For every kind: replacing an occurrence keeps what the cascade does for every state and saves gates, and the test of a key decides
 // whether it is that of an occurrence.
 pub fn occurrence_laws<K: GateKind>()
-    ensures replacing { Replacing means }
-    ensures decided { OccurrencesDecided means }
+    ensures replacing { Replacing K.means }
+    ensures decided { OccurrencesDecided K.means }
 {}

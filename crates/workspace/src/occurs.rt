@@ -28,7 +28,7 @@ use search::Key;
 // Whether the chosen gates are the first of the turned and extended template, and can be moved to the front.
 fn do_stand<K: GateKind>(frame: &Frame, named: &Named, extended: &Posed) -> bool
     ensures { result ≡ (chosen_first (take frame.now.count frame.now.gates) named.now (members_of extended.now.members extended.now.count)
-        && chosen_move means (take frame.now.count frame.now.gates) named.now) }
+        && chosen_move K.means (take frame.now.count frame.now.gates) named.now) }
 {
     if !choice::are_first(frame, named, extended) {
         return false;
@@ -41,7 +41,7 @@ fn do_stand<K: GateKind>(frame: &Frame, named: &Named, extended: &Posed) -> bool
 fn meets_rules<K: GateKind>(frame: &Frame, lines: u8, template: &Template, named: &Named) -> bool
     ensures { (gates : List Gate) (shelf : List EntryMeaning) → take frame.now.count frame.now.gates ≡ frame_at gates named.now.first
         → named.now.number < length shelf → template_on shelf (occurrence_of named.now) ≡ template_of template.now
-        → result ≡ rules_test means lines gates shelf (occurrence_of named.now) }
+        → result ≡ rules_test K.means lines gates shelf (occurrence_of named.now) }
 {
     if !is_turn::<K>(lines, template, named) {
         return false;
@@ -58,8 +58,8 @@ fn meets_rules<K: GateKind>(frame: &Frame, lines: u8, template: &Template, named
 // Whether the key is that of an occurrence of a template on the shelf, in gates of which the frame has those from the key's first place on.
 pub(crate) fn is_occurrence<K: GateKind>(frame: &Frame, lines: u8, shelf: &Shelf, key: &Key) -> bool
     ensures { (gates : List Gate) → take frame.now.count frame.now.gates ≡ frame_at gates (slice_index (keyed key.now) 0)
-        → AllByRecursion (λ (e : EntryMeaning). MeetsRules means e.template) (entries_of shelf.now.entries shelf.now.count) → lines ≤ 32
-        → result ≡ occurs_test means lines gates (entries_of shelf.now.entries shelf.now.count) (keyed key.now) }
+        → AllByRecursion (λ (e : EntryMeaning). MeetsRules K.means e.template) (entries_of shelf.now.entries shelf.now.count) → lines ≤ 32
+        → result ≡ occurs_test K.means lines gates (entries_of shelf.now.entries shelf.now.count) (keyed key.now) }
 {
     let number = key.at(1) as usize;
     if number >= shelf.count() {

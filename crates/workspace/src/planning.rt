@@ -19,9 +19,9 @@ use stores::Store;
 impl<S: Store> Holdings<S> {
     // The plan of replacing the occurrence that the key names; none where it names none.
     fn plan(&self, key: &Key) -> Option<Plan>
-        ensures { Sound Kind-as-GateKind.means (condition_of S.Store.means self.now)
-            → OccursIn Kind-as-GateKind.means (condition_of S.Store.means self.now) (keyed key.now)
-            → Plans Kind-as-GateKind.means (condition_of S.Store.means self.now) (keyed key.now) result }
+        ensures { Sound S.Kind.GateKind.means (condition_of S.Store.means self.now)
+            → OccursIn S.Kind.GateKind.means (condition_of S.Store.means self.now) (keyed key.now)
+            → Plans S.Kind.GateKind.means (condition_of S.Store.means self.now) (keyed key.now) result }
     {
         let number = key.at(1) as usize;
         if number >= self.shelf.count() {

@@ -38,7 +38,7 @@ fn find_source(size: usize, back: bool, rotation: usize, place: usize) -> usize
 
 // The gate in its direction, flipped where it can be.
 fn pose_gate<K: GateKind>(gate: Gate, back: bool, flips: LineSet) -> Gate
-    ensures { result ≡ flipped_or means flips (directed_gate means back gate) }
+    ensures { result ≡ flipped_or K.means flips (directed_gate K.means back gate) }
 {
     let directed = if back { K::inverse(gate) } else { gate };
     match K::flipped(directed, flips) {
@@ -54,7 +54,7 @@ pub(crate) fn pose<K: GateKind>(
     rotation: usize,
     flips: LineSet,
 ) -> Posed
-    ensures { rotation ≤ length (template_of template.now).gates → members_of result.members result.count ≡ posed means (template_of template.now) back rotation flips }
+    ensures { rotation ≤ length (template_of template.now).gates → members_of result.members result.count ≡ posed K.means (template_of template.now) back rotation flips }
 {
     let gates = template.gates();
     let size = template.size();

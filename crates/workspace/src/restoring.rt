@@ -9,7 +9,7 @@ use gates::{Gate, GateKind, LineSet};
 
 // The state that the gates at the chosen positions, in order, send this one to.
 fn run_chosen<K: GateKind>(gates: &[Gate], chosen: PositionSet, state: LineSet) -> LineSet
-    ensures { bit result ≡ run means (picked (bit chosen) gates.now) (bit state) }
+    ensures { bit result ≡ run K.means (picked (bit chosen) gates.now) (bit state) }
 {
     let mut reached = state;
     for (position, gate) in gates.iter().enumerate() {
@@ -23,7 +23,7 @@ fn run_chosen<K: GateKind>(gates: &[Gate], chosen: PositionSet, state: LineSet) 
 // Whether the gates at the chosen positions, in order, restore each state of so many lines.
 pub(super) fn do_chosen_restore<K: GateKind>(gates: &[Gate], chosen: PositionSet, lines: u8) -> bool
     requires { lines ≤ 4 }
-    ensures { result ≡ restores_test means lines (picked (bit chosen) gates.now) }
+    ensures { result ≡ restores_test K.means lines (picked (bit chosen) gates.now) }
 {
     for state in 0..1u32 << lines {
         if run_chosen::<K>(gates, chosen, state) != state {

@@ -16,7 +16,7 @@ pub(crate) enum Role {
 
 // The lines that have the role in the gate.
 pub(crate) fn lines_in<K: GateKind>(gate: Gate, role: Role) -> LineSet
-    ensures { result ≡ lines_in_lem means role gate }
+    ensures { result ≡ lines_in_lem K.means role gate }
 {
     match role {
         Role::Positive => gate.positive,
@@ -27,7 +27,7 @@ pub(crate) fn lines_in<K: GateKind>(gate: Gate, role: Role) -> LineSet
 
 // The distances of the gates in the frame in which the line has the role.
 fn column<K: GateKind>(frame: &Frame, role: Role, line: u8) -> u64
-    ensures { IsSet result (has_role_at means role frame.now.gates frame.now.count line) }
+    ensures { IsSet result (has_role_at K.means role frame.now.gates frame.now.count line) }
 {
     let mut distances = 0;
     for distance in 0..frame.count {
@@ -40,7 +40,7 @@ fn column<K: GateKind>(frame: &Frame, role: Role, line: u8) -> u64
 
 // For each line the distances at which it has the role.
 pub(crate) fn columns<K: GateKind>(frame: &Frame, role: Role) -> [u64; 32]
-    ensures { (x : ℕ) → x < 32 → IsSet (slice_index result x) (has_role_at means role frame.now.gates frame.now.count x) }
+    ensures { (x : ℕ) → x < 32 → IsSet (slice_index result x) (has_role_at K.means role frame.now.gates frame.now.count x) }
 {
     let mut all = [0; 32];
     for line in 0..32u8 {

@@ -23,7 +23,7 @@ pub(super) fn are_gates_few(proposal: &Proposal) -> bool
 
 // Whether every gate is well formed for the template's lines.
 pub(super) fn are_gates_well_formed<K: GateKind>(proposal: &Proposal) -> bool
-    ensures { result ≡ gates_test means (proposed proposal.now) }
+    ensures { result ≡ gates_test K.means (proposed proposal.now) }
 {
     for gate in proposal.gates {
         if !K::is_well_formed(*gate, proposal.lines) {
@@ -53,7 +53,7 @@ pub(super) fn are_groups_sound(proposal: &Proposal) -> bool
 pub(super) fn does_whole_restore<K: GateKind>(proposal: &Proposal) -> bool
     requires few_lines { proposal.now.lines ≤ 4 }
     requires few_gates { length proposal.now.gates.now ≤ 8 }
-    ensures { result ≡ whole_test means (proposed proposal.now) }
+    ensures { result ≡ whole_test K.means (proposed proposal.now) }
 {
     let all = positions::outside_selected(proposal.groups, 0);
     restoring::do_chosen_restore::<K>(proposal.gates, all, proposal.lines)
@@ -64,7 +64,7 @@ pub(super) fn do_selections_restore<K: GateKind>(proposal: &Proposal) -> bool
     requires few_lines { proposal.now.lines ≤ 4 }
     requires few_gates { length proposal.now.gates.now ≤ 8 }
     requires few_groups { length proposal.now.groups.now ≤ 3 }
-    ensures { result ≡ selections_test means (proposed proposal.now) }
+    ensures { result ≡ selections_test K.means (proposed proposal.now) }
 {
     for selection in 0..1u32 << proposal.groups.len() {
         let chosen = positions::outside_selected(proposal.groups, selection);

@@ -26,7 +26,7 @@ pub struct Start {
 
 // What is known for this first place.
 pub(crate) fn start_at<S: Store>(store: &S, first: usize) -> Start
-    ensures { Started Kind-as-GateKind.means (S.Store.means store.now).gates first result }
+    ensures { Started S.Kind.GateKind.means (S.Store.means store.now).gates first result }
 {
     let frame = framing::frame_from(store, first);
     Start {
@@ -47,7 +47,7 @@ fn agreeing(set: u64, wanted: bool) -> u64
 
 // The distances at which line x has the roles that the other line has in the gate.
 pub(crate) fn role_set<K: GateKind>(start: &Start, gate: Gate, line: u8, x: u8) -> u64
-    ensures { (gates : List Gate) (first : ℕ) → Started means gates first start.now → x < 32 → IsSet result (λ d. nat_lt d (length (frame_at gates first)) && same_role means gate line (at_distance (frame_at gates first) d) x) }
+    ensures { (gates : List Gate) (first : ℕ) → Started K.means gates first start.now → x < 32 → IsSet result (λ d. nat_lt d (length (frame_at gates first)) && same_role K.means gate line (at_distance (frame_at gates first) d) x) }
 {
     if x >= WIDTH {
         return 0;

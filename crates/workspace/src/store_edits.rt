@@ -21,10 +21,10 @@ pub(crate) fn take_out<S: Store>(store: &mut S, first: usize, later: &[usize])
 
 // Puts the inverses of the members' gates before a place, the last member's first.
 pub(crate) fn put_inverses<S: Store>(store: &mut S, place: usize, members: &[Member])
-    ensures { AllByRecursion (λ m. Formed Kind-as-GateKind.means (S.Store.means store.old).lines m.gate) members.now
+    ensures { AllByRecursion (λ m. Formed S.Kind.GateKind.means (S.Store.means store.old).lines m.gate) members.now
         → place ≤ length (S.Store.means store.old).gates
         → length (S.Store.means store.old).gates + length members.now ≤ (S.Store.means store.old).capacity
-        → S.Store.means store.new ≡ with_gates (S.Store.means store.old) (with_inverses Kind-as-GateKind.means (S.Store.means store.old).gates place (map (λ m. m.gate) members.now)) }
+        → S.Store.means store.new ≡ with_gates (S.Store.means store.old) (with_inverses S.Kind.GateKind.means (S.Store.means store.old).gates place (map (λ m. m.gate) members.now)) }
 {
     for member in members {
         let _ = store.insert(place, S::Kind::inverse(member.gate));

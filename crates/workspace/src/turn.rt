@@ -6,6 +6,6 @@ use gates::GateKind;
 
 // The theorem of turns, which every kind has, and that the test of a turn decides.
 pub fn turn_laws<K: GateKind>()
-    ensures turning { Turning means }
-    ensures decided { TurnsDecided means }
+    ensures turning { Turning K.means }
+    ensures decided { TurnsDecided K.means }
 {}

@@ -14,7 +14,7 @@ use gates::{Gate, GateKind, LineSet, WIDTH, sets};
 
 // Whether the gate, in its direction, has a flipped form.
 fn is_flippable<K: GateKind>(gate: Gate, back: bool, flips: LineSet) -> bool
-    ensures { result ≡ is_some (means.flipped flips (directed_gate means back gate)) }
+    ensures { result ≡ is_some (K.means.flipped flips (directed_gate K.means back gate)) }
 {
     let directed = if back { K::inverse(gate) } else { gate };
     K::flipped(directed, flips).is_some()
@@ -22,7 +22,7 @@ fn is_flippable<K: GateKind>(gate: Gate, back: bool, flips: LineSet) -> bool
 
 // Whether each gate, in its direction, has a flipped form.
 fn are_flippable<K: GateKind>(gates: &[Gate], back: bool, flips: LineSet) -> bool
-    ensures { result ≡ all_pass (λ x. is_some (means.flipped flips x.gate)) (directed means back (placed gates.now)) }
+    ensures { result ≡ all_pass (λ x. is_some (K.means.flipped flips x.gate)) (directed K.means back (placed gates.now)) }
 {
     for gate in gates {
         if !is_flippable::<K>(*gate, back, flips) {
@@ -65,7 +65,7 @@ fn is_table(table: &[u8], from: u8, lines: u8) -> bool
 
 // Whether the turn that is named is one of the template onto so many lines.
 pub(crate) fn is_turn<K: GateKind>(lines: u8, template: &Template, named: &Named) -> bool
-    ensures { result ≡ turn_test means lines (template_of template.now) (occurrence_of named.now).turn }
+    ensures { result ≡ turn_test K.means lines (template_of template.now) (occurrence_of named.now).turn }
 {
     named.rotation < template.size()
         && sets::is_below(named.flips, template.lines())

@@ -1,6 +1,6 @@
 // The workspace: a store of gates, a shelf of templates and a policy.
 ghost use Rattle.std.specs.Prelude.{◌≡◌, length};
-ghost use Rattle.stores.specs.Stores.{Sound as Sound-store, read_outcome};
+ghost use Rattle.stores.specs.Stores.{Sound as SoundStore, read_outcome};
 ghost use Rattle.workspace.specs.Conditions.{Sound, condition, opened, replacements_outcome};
 ghost use Rattle.workspace.specs.Shelves.{entries_of};
 
@@ -23,7 +23,7 @@ impl<S: Store, P: Policy> Workspace<S, P> {
     pub fn new(store: S, policy: P) -> Workspace<S, P>
         ensures holds { (result.store ≡ store) × (result.policy ≡ policy) }
         ensures opens { condition (S.Store.means result.store) (entries_of result.shelf.entries result.shelf.count) ≡ opened (S.Store.means store) }
-        ensures sound { Sound-store Kind-as-GateKind.means (S.Store.means store) → Sound Kind-as-GateKind.means (condition (S.Store.means result.store) (entries_of result.shelf.entries result.shelf.count)) }
+        ensures sound { SoundStore S.Kind.GateKind.means (S.Store.means store) → Sound S.Kind.GateKind.means (condition (S.Store.means result.store) (entries_of result.shelf.entries result.shelf.count)) }
     {
         Workspace {
             store,

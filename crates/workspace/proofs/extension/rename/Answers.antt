@@ -26,7 +26,7 @@ loop-place-preserved g c =
     )
 
 pub invariant_of-result : goal.invariant_of-result
-invariant_of-result g c = (c.loop-place.invariant.0, (c.args.posed.now.few, tt))
+invariant_of-result g c = record { wide = c.loop-place.invariant.0; few = c.args.posed.now.few }
 
 pub returns : goal.returns
 returns g c =

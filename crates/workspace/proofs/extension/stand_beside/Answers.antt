@@ -41,7 +41,7 @@ loop-number-preserved c =
     )
 
 pub invariant_of-result : goal.invariant_of-result
-invariant_of-result c = let few : c.min-count.result ≤ 8 = omega (arith, c.min-count.ensures, c.args.turned.now.few) in (c.loop-number.invariant.0, (few, tt))
+invariant_of-result c = record { wide = c.loop-number.invariant.0; few = omega (arith, c.min-count.ensures, c.args.turned.now.few) }
 
 pub returns : goal.returns
 returns c =

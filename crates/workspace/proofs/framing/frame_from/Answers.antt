@@ -18,7 +18,7 @@ loop-distance-preserved g c =
     )
 
 pub invariant_of-result : goal.invariant_of-result
-invariant_of-result g c = (c.loop-distance.invariant.0, (omega (arith, c.min-count.ensures), tt))
+invariant_of-result g c = record { wide = c.loop-distance.invariant.0; few = omega (arith, c.min-count.ensures) }
 
 pub returns : goal.returns
 returns g c =

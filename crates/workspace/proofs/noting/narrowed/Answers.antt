@@ -31,7 +31,7 @@ loop-place-preserved g c =
     )
 
 pub invariant_of-result : goal.invariant_of-result
-invariant_of-result g c = (c.loop-place.invariant.0, tt)
+invariant_of-result g c = record { wide = c.loop-place.invariant.0 }
 
 pub returns : goal.returns
 returns g c = record { poses = refl; reaches = λ j gates first l started below. c.loop-place.invariant.2 j (omega (arith, c.loop-place-test.false)) gates first started below; chooses = refl }

@@ -36,7 +36,7 @@ returns-in-Some g c gates framed meets few =
     let read = read_some l key (occurrence_of m) c.in-Some.ensures in
     let first : m.first ≡ get_or key 0 0 = ap (λ (o : Occurrence). o.first) read.1 in
     let number : m.number ≡ get_or key 1 0 = ap (λ (o : Occurrence). o.number) read.1 in
-    c.meets_rules_lem.ensures gates shelf (framed ∙ ap (frame_at gates) (sym first)) (omega (arith, c.count.ensures.is, c.at-number.ensures, c.if-number-count.false))
+    c.meets_rules.ensures gates shelf (framed ∙ ap (frame_at gates) (sym first)) (omega (arith, c.count.ensures.is, c.at-number.ensures, c.if-number-count.false))
     (ap (λ (i : ℕ). (get_or shelf i no_entry).template) (number ∙ sym c.at-number.ensures) ∙ sym c.template-template.ensures)
     ∙ ap (rules_test k n gates shelf) read.1
     ∙ occurring_named k n gates shelf key l lines read.0

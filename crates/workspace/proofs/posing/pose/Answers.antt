@@ -29,7 +29,7 @@ loop-place-preserved g c =
     )
 
 pub invariant_of-result : goal.invariant_of-result
-invariant_of-result g c = (c.loop-place.invariant.0, (c.size-size.ensures.few, tt))
+invariant_of-result g c = record { wide = c.loop-place.invariant.0; few = c.size-size.ensures.few }
 
 pub returns : goal.returns
 returns g c le =

@@ -12,7 +12,7 @@ few_enough n b few = ap (λ (t : Bool). t && b) (sym (le-leb n 3 few))
 pub loop-group-preserved : goal.loop-group-preserved
 loop-group-preserved c =
     let p = c.args.proposal.now in
-    pass_more (group_test (length p.gates.now)) p.groups.now c.loop-group.group_index 0 c.loop-group_test.true c.if-not-is_group.ensures
+    pass_more (group_test (length p.gates.now)) p.groups.now c.loop-group.group-index 0 c.loop-group-test.true c.if-not-is_group.ensures
     ∙ c.loop-group.invariant
 
 pub returns-then-proposal-gt-MOST_GROUPS : goal.returns-then-proposal-gt-MOST_GROUPS
@@ -23,13 +23,13 @@ returns-then-proposal-gt-MOST_GROUPS c =
 pub returns-then-not-is_group : goal.returns-then-not-is_group
 returns-then-not-is_group c =
     let p = c.args.proposal.now in
-    pass_fails (group_test (length p.gates.now)) p.groups.now c.loop-group.group_index 0 c.loop-group_test.true c.if-not-is_group.ensures
+    pass_fails (group_test (length p.gates.now)) p.groups.now c.loop-group.group-index 0 c.loop-group-test.true c.if-not-is_group.ensures
     ∙ c.loop-group.invariant
     ∙ few_enough (length p.groups.now) (all_pass (group_test (length p.gates.now)) p.groups.now) c.if-proposal-gt-MOST_GROUPS.false
 
 pub returns : goal.returns
 returns c =
     let p = c.args.proposal.now in
-    sym (at_drop_all (all_pass (group_test (length p.gates.now))) p.groups.now c.loop-group.group_index c.loop-group_test.false)
+    sym (at_drop_all (all_pass (group_test (length p.gates.now))) p.groups.now c.loop-group.group-index c.loop-group-test.false)
     ∙ c.loop-group.invariant
     ∙ few_enough (length p.groups.now) (all_pass (group_test (length p.gates.now)) p.groups.now) c.if-proposal-gt-MOST_GROUPS.false

@@ -22,7 +22,7 @@ loop-distance-preserved c =
       | else-after-distance w ↦
           subst (Below P (d + 1)) (sym w.distances-is)
           (elim w.else-after-distance.branch [
-            | else-after-distance-via-then-after-distance+else-is_within v ↦ below_skip P d set c.loop-distance.invariant (and_right _ _ (sym v.is_Within.ensures ∙ v.if-is_within.false))
+            | else-after-distance-via-then-after-distance+else-is_within v ↦ below_skip P d set c.loop-distance.invariant (and_right _ _ (sym v.is_within.ensures ∙ v.if-is_within.false))
             | else-after-distance-via-else-after-distance v ↦ below_skip P d set c.loop-distance.invariant (and_left _ _ (le-ltb c.args.after d v.if-after-distance.false))
           ])
     ]

@@ -4,7 +4,7 @@ use Rattle.workspace.proofs.start.start_at.Goals as goal
 
 pub returns : goal.returns
 returns g c =
-    let k = g.Kind.GateKind.means in
+    let k = g.S.Kind.GateKind.means in
     let gates = (g.S.Store.means c.args.store.now).gates in
     let f = c.frame_from-frame.result in
     let is = c.frame_from-frame.ensures in

@@ -19,7 +19,7 @@ loop-member-init g c formed here room =
 
 pub loop-member-preserved : goal.loop-member-preserved
 loop-member-preserved g c formed here room =
-    let k = g.Kind.GateKind.means in
+    let k = g.S.Kind.GateKind.means in
     let m = g.S.Store.means c.args.store.now in
     let members = c.args.members.now in
     let place = c.args.place in
@@ -32,13 +32,13 @@ loop-member-preserved g c formed here room =
     let few : length m.gates + length more < m.capacity = omega (arith, length-map (take i members) (λ (y : Member). y.gate), length-take-le i members (omega arith)) in
     c.insert.ensures.leaves
     ∙ ap (λ (y : Gate). after s (insert_outcome k s place y)) c.inverse.ensures
-    ∙ put_one k g.met.Kind.GateKind.lawful m s place more x here few (All-get_or (λ (y : Member). Formed k m.lines y.gate) members i d lt formed) (c.loop-member.invariant formed here room)
+    ∙ put_one k g.met.S.Kind.GateKind.lawful m s place more x here few (All-get_or (λ (y : Member). Formed k m.lines y.gate) members i d lt formed) (c.loop-member.invariant formed here room)
     ∙ ap (λ (gs : List Gate). with_gates m (with_inverses k m.gates place gs)) (sym (map_more (λ (y : Member). y.gate) members i d lt))
 
 pub returns : goal.returns
 returns g c formed here room =
     let m = g.S.Store.means c.args.store.now in
     let members = c.args.members.now in
-    let k = g.Kind.GateKind.means in
+    let k = g.S.Kind.GateKind.means in
     c.loop-member.invariant formed here room
     ∙ ap (λ (xs : List Member). with_gates m (with_inverses k m.gates c.args.place (map (λ x. x.gate) xs))) (take_all c.loop-member.member-index members (omega arith))

@@ -8,7 +8,7 @@ use Rattle.workspace.proofs.store_edits.put_inverses.Given as goal
 abbrev pub invariant-loop-member : goal.invariant-loop-member
 invariant-loop-member g l =
     let m = g.S.Store.means l.initial.store in
-    AllByRecursion (λ x. Formed g.Kind.GateKind.means m.lines x.gate) l.members
+    AllByRecursion (λ x. Formed g.S.Kind.GateKind.means m.lines x.gate) l.members
     → l.place ≤ length m.gates
     → length m.gates + length l.members ≤ m.capacity
-    → g.S.Store.means l.store ≡ with_gates m (with_inverses g.Kind.GateKind.means m.gates l.place (map (λ x. x.gate) (take l.member-index l.members)))
+    → g.S.Store.means l.store ≡ with_gates m (with_inverses g.S.Kind.GateKind.means m.gates l.place (map (λ x. x.gate) (take l.member-index l.members)))

@@ -17,7 +17,7 @@ use Rattle.workspace.proofs.holdings.Holdings.carry_out.Goals.{then-named-count,
 
 pub returns : goal.returns
 returns g c key sound planned =
-    let k = g.Kind.GateKind.means in
+    let k = g.S.Kind.GateKind.means in
     let h = c.args.self.now in
     let before = condition_of g.S.Store.means h in
     let plan = c.args.plan.now in
@@ -28,7 +28,7 @@ returns g c key sound planned =
     let members = plan.extended.members in
     let count = plan.extended.count in
     let turned = turned_gates k e o.turn is.adds in
-    let laws = g.met.Kind.GateKind.lawful in
+    let laws = g.met.S.Kind.GateKind.lawful in
     let bounded = g.S.Store.bounded h.store in
     let many = as_many k laws before bounded sound o is in
     let gates-same : gates_of (members_of members count) ≡ turned = ap gates_of planned.extended in

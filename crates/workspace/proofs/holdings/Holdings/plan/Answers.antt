@@ -10,18 +10,18 @@ use Rattle.workspace.specs.Proposals.{template_of}
 use Rattle.workspace.proofs.PlannedKeys.{read_none, read_some, rules, rotates, extended_none, planned}
 use Rattle.workspace.proofs.holdings.Holdings.plan.Goals as goal
 
-pub returns-in-default : goal.returns-in-default
-returns-in-default g c sound there =
-    let k = g.Kind.GateKind.means in
+pub returns-in_default : goal.returns-in_default
+returns-in_default g c sound there =
+    let k = g.S.Kind.GateKind.means in
     let cond-now = condition_of g.S.Store.means c.args.self.now in
     let key = keyed c.args.key.now in
     let e = template_of c.template-template.result.now in
     let is-template : e ≡ (get_or cond-now.shelf (get_or key 1 0) no_entry).template = c.template-template.ensures ∙ ap (λ (n : ℕ). (get_or cond-now.shelf n no_entry).template) c.at-number.ensures in
-    read_none k cond-now key sound there e is-template (c.in-default.ensures ∙ ap (λ (n : ℕ). cond (readable n key) (Some (spelled n key)) None) c.lines.ensures)
+    read_none k cond-now key sound there e is-template (c.in_default.ensures ∙ ap (λ (n : ℕ). cond (readable n key) (Some (spelled n key)) None) c.lines.ensures)
 
 pub returns-in-None : goal.returns-in-None
 returns-in-None g c sound there =
-    let k = g.Kind.GateKind.means in
+    let k = g.S.Kind.GateKind.means in
     let cond-now = condition_of g.S.Store.means c.args.self.now in
     let key = keyed c.args.key.now in
     let e = template_of c.template-template.result.now in
@@ -33,7 +33,7 @@ returns-in-None g c sound there =
 
 pub returns-in-Some-extend : goal.returns-in-Some-extend
 returns-in-Some-extend g c sound there =
-    let k = g.Kind.GateKind.means in
+    let k = g.S.Kind.GateKind.means in
     let cond-now = condition_of g.S.Store.means c.args.self.now in
     let key = keyed c.args.key.now in
     let e = template_of c.template-template.result.now in

@@ -19,7 +19,7 @@ use Rattle.workspace.proofs.matching.HoldingsProblem.candidates.Goals.{then-line
 
 pub returns-then-count-eq1 : goal.returns-then-count-eq1
 returns-then-count-eq1 g c fits v rest e =
-    let k = g.Kind.GateKind.means in
+    let k = g.S.Kind.GateKind.means in
     let held = condition_of g.S.Store.means c.args.self.now in
     let key = keyed c.args.key.now in
     let one : length key ≡ 1 = omega arith in
@@ -28,12 +28,12 @@ returns-then-count-eq1 g c fits v rest e =
 
 pub returns-then-number-count : goal.returns-then-number-count
 returns-then-number-count g c fits v rest e =
-    absurd (unlisted g.Kind.GateKind.means (condition_of g.S.Store.means c.args.self.now) fits.sound.sound (keyed c.args.key.now) (omega (arith, fits.some))
+    absurd (unlisted g.S.Kind.GateKind.means (condition_of g.S.Store.means c.args.self.now) fits.sound.sound (keyed c.args.key.now) (omega (arith, fits.some))
     (omega (arith, c.if-number-count.true, c.at-number.ensures, c.count-2.ensures.is)) v rest e)
 
 pub returns-then-count-lt6 : goal.returns-then-count-lt6
 returns-then-count-lt6 g c fits v rest e =
-    let k = g.Kind.GateKind.means in
+    let k = g.S.Kind.GateKind.means in
     let held = condition_of g.S.Store.means c.args.self.now in
     let key = keyed c.args.key.now in
     let n = next_of k held key v rest e in
@@ -46,7 +46,7 @@ returns-then-count-lt6 g c fits v rest e =
 
 pub returns-then-line-lines : goal.returns-then-line-lines
 returns-then-line-lines g c fits v rest e =
-    let k = g.Kind.GateKind.means in
+    let k = g.S.Kind.GateKind.means in
     let held = condition_of g.S.Store.means c.args.self.now in
     let gates = held.store.gates in
     let sound = fits.sound.sound in
@@ -68,11 +68,11 @@ returns-then-line-lines g c fits v rest e =
     c.next_lines.ensures gates o.first started (omega (arith, c.lines.ensures, bounded.few_lines)) v (omega (arith, below, bounded.few_lines))
     ∙ and_from (ltb v c.lines.result) _ (lt-ltb v c.lines.result (omega (arith, below, c.lines.ensures)))
     (and_from (not (has_number_lem (drop 6 key) v)) _ (not_from_false (has_number_lem (drop 6 key) v) (line_new k held sound key v n i long inside))
-    (line_possible k held g.met.Kind.GateKind.lawful sound key v n c.args.note.now note c.saturating_sub-few.result i few long inside))
+    (line_possible k held g.met.S.Kind.GateKind.lawful sound key v n c.args.note.now note c.saturating_sub-few.result i few long inside))
 
 pub returns : goal.returns
 returns g c fits v rest e =
-    let k = g.Kind.GateKind.means in
+    let k = g.S.Kind.GateKind.means in
     let held = condition_of g.S.Store.means c.args.self.now in
     let gates = held.store.gates in
     let sound = fits.sound.sound in
@@ -92,7 +92,7 @@ returns g c fits v rest e =
       | else-line-lines-2 w ↦
           w.last-is ∙ w.at-else-line-lines-2.ensures ∙ last_later k held key o n.begun j (c.len-count.result - 1) (omega (arith, w.if-line-lines-2.false, c.if-line-lines.false)) long (omega arith)
     ] in
-    let h = place_next k held g.met.Kind.GateKind.lawful sound key v n c.args.note.now (fits.whole (omega arith) o n.begun) j c.if-line-lines-2.last long last in
+    let h = place_next k held g.met.S.Kind.GateKind.lawful sound key v n c.args.note.now (fits.whole (omega arith) o n.begun) j c.if-line-lines-2.last long last in
     let few = (meets_rules_lem k held key o n.begun sound).size.1 in
     c.next_places.ensures k gates o.first started (omega (arith, inside, n.begun.rules.within, few)) v h.0
     ∙ ap (λ (x : ℕ). bit (get_or c.args.note.now.reached x 0) v && (ltb v (length (frame_at gates o.first)) && (ltb c.if-line-lines-2.last v && movable k (frame_at gates o.first) c.args.note.now.chosen v)))

@@ -17,7 +17,7 @@ use Rattle.workspace.proofs.matching.HoldingsProblem.note.Goals.{then-count-lt6-
 
 pub returns-then-count-lt6 : goal.returns-then-count-lt6
 returns-then-count-lt6 g c sound prefix v is started above six o b =
-    let k = g.Kind.GateKind.means in
+    let k = g.S.Kind.GateKind.means in
     let held = condition_of g.S.Store.means c.args.self.now in
     let listed = number_listed k held (keyed c.args.key.now) o b (omega arith) in
     absurd (elim c.then-count-lt6.branch [
@@ -27,7 +27,7 @@ returns-then-count-lt6 g c sound prefix v is started above six o b =
 
 pub returns-then-count-eq6 : goal.returns-then-count-eq6
 returns-then-count-eq6 g c sound prefix v is started above six o b =
-    let k = g.Kind.GateKind.means in
+    let k = g.S.Kind.GateKind.means in
     let held = condition_of g.S.Store.means c.args.self.now in
     let key = keyed c.args.key.now in
     let t = template_of c.template-template.result.now in
@@ -37,7 +37,7 @@ returns-then-count-eq6 g c sound prefix v is started above six o b =
 
 pub returns-then-count-lines : goal.returns-then-count-lines
 returns-then-count-lines g c sound prefix v is started above six o b =
-    let k = g.Kind.GateKind.means in
+    let k = g.S.Kind.GateKind.means in
     let held = condition_of g.S.Store.means c.args.self.now in
     let key = keyed c.args.key.now in
     let t = template_of c.template-template.result.now in
@@ -49,12 +49,12 @@ returns-then-count-lines g c sound prefix v is started above six o b =
     let note = c.with_distance.result in
     let old = c.args.above.now in
     let fits = above (omega arith) o (begun_before k held sound.sound key prefix v is o b) in
-    place_fits k held sound.sound key prefix v is o b g.met.Kind.GateKind.lawful old note fits c.with_distance.ensures.poses (omega (arith, c.if-count-lines.true, c.lines.ensures, lines))
+    place_fits k held sound.sound key prefix v is o b g.met.S.Kind.GateKind.lawful old note fits c.with_distance.ensures.poses (omega (arith, c.if-count-lines.true, c.lines.ensures, lines))
     c.with_distance.ensures.reaches (subst (λ (x : ℕ). IsSet note.chosen (λ d. eqb d x || bit old.chosen d)) last c.with_distance.ensures.chooses)
 
 pub returns-then-last-ge32 : goal.returns-then-last-ge32
 returns-then-last-ge32 g c sound prefix v is started above six o b =
-    let k = g.Kind.GateKind.means in
+    let k = g.S.Kind.GateKind.means in
     let held = condition_of g.S.Store.means c.args.self.now in
     let key = keyed c.args.key.now in
     let t = template_of c.template-template.result.now in
@@ -68,7 +68,7 @@ returns-then-last-ge32 g c sound prefix v is started above six o b =
 
 pub returns : goal.returns
 returns g c sound prefix v is started above six o b =
-    let k = g.Kind.GateKind.means in
+    let k = g.S.Kind.GateKind.means in
     let held = condition_of g.S.Store.means c.args.self.now in
     let gates = held.store.gates in
     let key = keyed c.args.key.now in
@@ -84,7 +84,7 @@ returns g c sound prefix v is started above six o b =
     let old = c.args.above.now in
     let i = c.len-count.result - 7 in
     let fits = above (omega arith) o (begun_before k held sound.sound key prefix v is o b) in
-    narrowed_fits k held sound.sound key prefix v is o b g.met.Kind.GateKind.lawful old note fits c.narrowed.ensures.poses i (omega arith) (omega (arith, c.if-count-lines.false, c.lines.ensures, lines))
+    narrowed_fits k held sound.sound key prefix v is o b g.met.S.Kind.GateKind.lawful old note fits c.narrowed.ensures.poses i (omega arith) (omega (arith, c.if-count-lines.false, c.lines.ensures, lines))
     c.narrowed.ensures.chooses
     (λ j l. subst (λ (x : ℕ). IsSet (get_or note.reached j 0) (λ d. bit (get_or old.reached j 0) d && can_stand k (frame_at gates o.first) (gate_of_lem old j) i x d)) last
     (c.narrowed.ensures.reaches j gates o.first l here (omega (arith, c.if-last-ge32.false))))

@@ -9,7 +9,7 @@ use Rattle.workspace.proofs.workspace.Workspace.append.Goals as goal
 
 pub returns : goal.returns
 returns g c =
-    let k = g.Kind.GateKind.means in
+    let k = g.S.Kind.GateKind.means in
     let w = c.args.self.now in
     let m = g.S.Store.means w.store in
     let es = entries_of w.shelf.entries w.shelf.count in
@@ -20,5 +20,5 @@ returns g c =
     record {
       answers = c.insert.ensures.answers ∙ ap (λ (i : ℕ). stores.answer (insert_outcome k m i y)) place ∙ append_answers k m es y;
       leaves = ap (λ (x : StoreMeaning). condition x es) now ∙ append_leaves k m es y;
-      sound = λ s. subst (λ (x : StoreMeaning). Sound k (condition x es)) (sym now) (append_sound k m es y g.met.Kind.GateKind.lawful s);
+      sound = λ s. subst (λ (x : StoreMeaning). Sound k (condition x es)) (sym now) (append_sound k m es y g.met.S.Kind.GateKind.lawful s);
     }

@@ -10,7 +10,7 @@ use Rattle.workspace.proofs.workspace.Workspace.shelve.Goals as goal
 
 pub returns-else-count-ge-MOST_ENTRIES : goal.returns-else-count-ge-MOST_ENTRIES
 returns-else-count-ge-MOST_ENTRIES g c =
-    let k = g.Kind.GateKind.means in
+    let k = g.S.Kind.GateKind.means in
     let w = c.args.self.now in
     let m = g.S.Store.means w.store in
     let es = entries_of w.shelf.entries w.shelf.count in

@@ -9,7 +9,7 @@ use Rattle.workspace.proofs.workspace.Workspace.withdraw.Goals as goal
 
 pub returns : goal.returns
 returns g c =
-    let k = g.Kind.GateKind.means in
+    let k = g.S.Kind.GateKind.means in
     let w = c.args.self.now in
     let m = g.S.Store.means w.store in
     let es = entries_of w.shelf.entries w.shelf.count in
