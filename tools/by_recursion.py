@@ -14,6 +14,8 @@ ROOT = sys.argv[1] if len(sys.argv) > 1 else "."
 IMPORT = re.compile(r"^(?P<lead>(?:ghost )?use )(?P<home>Rattle\.std\.(?:specs\.Prelude|proofs\.Common))\.\{(?P<names>[^}]*)\}(?P<end>;?)$", re.M)
 DECIDES = re.compile(r"^use Rattle\.std\.proofs\.lemmas\.Bool\.Decides\.\{(?P<names>[^}]*)\}$", re.M)
 ELEMENTS = "Rattle.std.proofs.lemmas.List.Elements."
+ALL = re.compile(r"(?<![\w.'-])All(?![\w'-])")
+COMMENT = re.compile(r"\s*(?:--|//)")
 BY_RECURSION = "Rattle.std.proofs.ByRecursion."
 
 
@@ -44,7 +46,7 @@ def turned(text):
         return "\n".join(lines + ([f"use {BY_RECURSION}{{{', '.join(moved)}}}"] if moved else []))
 
     text = DECIDES.sub(without_lists, IMPORT.sub(without_all, text)).replace(ELEMENTS, BY_RECURSION)
-    return re.sub(r"(?<![\w.'-])All(?![\w'-])", "AllByRecursion", text)
+    return "\n".join(line if COMMENT.match(line) else ALL.sub("AllByRecursion", line) for line in text.split("\n"))
 
 
 def main():
@@ -52,7 +54,7 @@ def main():
     for path in texts():
         with open(path, encoding="utf-8") as it:
             text = it.read()
-        after = turned(text) if re.search(r"(?<![\w.'-])All(?![\w'])", text) or "Decides-by_and" in text else text
+        after = turned(text) if ALL.search(text) or ELEMENTS in text or "Decides-by_and" in text else text
         if after != text:
             changed += 1
             with open(path, "w", encoding="utf-8") as it:

@@ -17,7 +17,7 @@ pub fn record(number: u32) -> Gate {
     }
 }
 
-// AllByRecursion gates that are well formed for `lines` lines, at most 4.
+// All gates that are well formed for `lines` lines, at most 4.
 pub fn all_gates<K: SlowKind>(heap: Global, lines: u8) -> Result<Vec<Gate>, AllocError> {
     let mut gates = Vec::new(heap);
     for number in 0..RECORDS {

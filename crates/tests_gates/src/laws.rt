@@ -110,7 +110,7 @@ fn check_added_controls<K: GateKind + SlowKind>(
     Ok(unused)
 }
 
-// AllByRecursion six rearrangements of each of the gates on three lines, of which there are so many.
+// All six rearrangements of each of the gates on three lines, of which there are so many.
 fn check_renaming<K: GateKind + SlowKind>(
     rt: &impl Abort,
     heap: Global,
@@ -124,7 +124,7 @@ fn check_renaming<K: GateKind + SlowKind>(
     Ok(())
 }
 
-// AllByRecursion six rearrangements of one gate's lines.
+// All six rearrangements of one gate's lines.
 fn check_tables<K: GateKind + SlowKind>(rt: &impl Abort, gate: Gate) -> Result<(), Fail> {
     for (there, back) in TABLES {
         check_renamed::<K>(rt, gate, there, back).note(format_args!("{there:?}"))?;
@@ -132,7 +132,7 @@ fn check_tables<K: GateKind + SlowKind>(rt: &impl Abort, gate: Gate) -> Result<(
     Ok(())
 }
 
-// AllByRecursion eight sets of lines to flip, for each of the gates on three lines, of which there are so many.
+// All eight sets of lines to flip, for each of the gates on three lines, of which there are so many.
 fn check_flipping<K: GateKind + SlowKind>(
     rt: &impl Abort,
     heap: Global,
@@ -146,7 +146,7 @@ fn check_flipping<K: GateKind + SlowKind>(
     Ok(())
 }
 
-// AllByRecursion eight sets of lines to flip, for one gate.
+// All eight sets of lines to flip, for one gate.
 fn check_flips<K: GateKind + SlowKind>(rt: &impl Abort, gate: Gate) -> Result<(), Fail> {
     for chosen in 0..8u32 {
         check_flip::<K>(rt, gate, chosen).note(chosen)?;

@@ -44,7 +44,7 @@ fn check_partners<K: GateKind + SlowKind>(rt: &impl Abort, first: Gate, gates: &
     partners
 }
 
-// AllByRecursion pairs of gates on four lines, of which so many interchange.
+// All pairs of gates on four lines, of which so many interchange.
 fn check_pairs<K: GateKind + SlowKind>(
     rt: &impl Abort,
     heap: Global,

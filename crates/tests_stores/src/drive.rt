@@ -95,7 +95,7 @@ fn perform<S: Store, K: TestKind>(
     }
 }
 
-// AllByRecursion the calls of a seed; each number of refusal has to occur.
+// All the calls of a seed; each number of refusal has to occur.
 pub fn drive<S: Store, K: TestKind>(
     rt: &impl Abort,
     store: &mut S,

@@ -68,7 +68,7 @@ fn check_window_in_window<S: Store + Drop, K: TestKind>(
     Ok(store)
 }
 
-// AllByRecursion three piles on one store, one after the other.
+// All three piles on one store, one after the other.
 fn check_piles<S: Store + Drop, K: TestKind>(rt: &impl Abort, store: S) -> Result<(), Fail> {
     let mut model = Model::new(RECORDS);
     check_same(rt, &store, &model)?;

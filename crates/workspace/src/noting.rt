@@ -14,7 +14,7 @@ use super::start::{Start, role_set};
 use gates::{Gate, GateKind, LineSet};
 use search::candidates;
 
-// AllByRecursion distances but that of the first place itself.
+// All distances but that of the first place itself.
 const LATER: u64 = 18446744073709551614;
 
 // The note of a template as it is posed: the first gate stands at the first place, the others anywhere behind it.
