@@ -3,7 +3,7 @@ use std::io;
 use stores::StoreRefusal;
 
 // What was in the way.
-#[derive(Drop)]
+#[derive(Debug, Drop)]
 pub enum Failure {
     // Writing failed.
     Output(io::Error),

@@ -14,56 +14,48 @@ fn check_renamed<K: GateKind + SlowKind>(
     gate: Gate,
     there: [u8; 3],
     back: [u8; 3],
-) -> Result<(), Fail> {
+) {
     let renamed = K::renamed(gate, &there);
-    assert!(rt; slow::is_well_formed::<K>(renamed, 3));
-    assert_eq!(rt; K::renamed(renamed, &back), gate);
+    assert!(rt;
+        slow::is_well_formed::<K>(renamed, 3),
+        "{gate:?} by {there:?}"
+    );
+    assert_eq!(rt; K::renamed(renamed, &back), gate, "{gate:?} by {there:?}");
     for state in 0..16u32 {
         let values = values_of(state);
         let reached = through(slow::run::<K>(renamed, values), there);
         let expected = slow::run::<K>(gate, through(values, there));
-        assert_eq!(rt; number_of(reached), number_of(expected), "{}", state);
+        assert_eq!(rt;
+            number_of(reached),
+            number_of(expected),
+            "{gate:?} by {there:?} at {state}"
+        );
     }
-    Ok(())
 }
 
 // The flipped gate does what the gate does between two inversions of the chosen lines.
-fn check_flipped<K: SlowKind>(
-    rt: &impl Abort,
-    gate: Gate,
-    flipped: Gate,
-    chosen: Values,
-) -> Result<(), Fail> {
-    assert!(rt; slow::is_well_formed::<K>(flipped, 3));
+fn check_flipped<K: SlowKind>(rt: &impl Abort, gate: Gate, flipped: Gate, chosen: Values) {
+    assert!(rt; slow::is_well_formed::<K>(flipped, 3), "{gate:?}");
     for state in 0..16u32 {
         let values = values_of(state);
         let expected = inverted(slow::run::<K>(gate, inverted(values, chosen)), chosen);
         assert_eq!(rt;
             number_of(slow::run::<K>(flipped, values)),
             number_of(expected),
-            "{}",
-            state
+            "{gate:?} at {state}"
         );
     }
-    Ok(())
 }
 
 // There is a flipped gate exactly when the slow rule says so, and it is right.
-fn check_flip<K: GateKind + SlowKind>(
-    rt: &impl Abort,
-    gate: Gate,
-    chosen: LineSet,
-) -> Result<(), Fail> {
+fn check_flip<K: GateKind + SlowKind>(rt: &impl Abort, gate: Gate, chosen: LineSet) {
     let lines = values_of(chosen);
     match K::flipped(gate, chosen) {
         Some(flipped) => {
-            assert!(rt; K::has_flipped(gate, lines));
-            check_flipped::<K>(rt, gate, flipped, lines)
+            assert!(rt; K::has_flipped(gate, lines), "{gate:?} by {chosen}");
+            check_flipped::<K>(rt, gate, flipped, lines);
         }
-        None => {
-            assert!(rt; !K::has_flipped(gate, lines));
-            Ok(())
-        },
+        None => assert!(rt; !K::has_flipped(gate, lines), "{gate:?} by {chosen}"),
     }
 }
 
@@ -74,9 +66,12 @@ fn check_controlled<K: GateKind + SlowKind>(
     line: u8,
     sign: Sign,
     wanted: bool,
-) -> Result<(), Fail> {
+) {
     let controlled = K::controlled(gate, line, sign);
-    assert!(rt; slow::is_well_formed::<K>(controlled, 3));
+    assert!(rt;
+        slow::is_well_formed::<K>(controlled, 3),
+        "{gate:?} on {line}"
+    );
     for state in 0..16u32 {
         let values = values_of(state);
         let expected = if value_at(values, line) == wanted {
@@ -87,27 +82,22 @@ fn check_controlled<K: GateKind + SlowKind>(
         assert_eq!(rt;
             number_of(slow::run::<K>(controlled, values)),
             number_of(expected),
-            "{}",
-            state
+            "{gate:?} on {line} at {state}"
         );
     }
-    Ok(())
 }
 
 // Both signs of a control on each line that the gate does not use; how many such lines there are.
-fn check_added_controls<K: GateKind + SlowKind>(
-    rt: &impl Abort,
-    gate: Gate,
-) -> Result<usize, Fail> {
+fn check_added_controls<K: GateKind + SlowKind>(rt: &impl Abort, gate: Gate) -> usize {
     let mut unused = 0usize;
     for line in 0..3u8 {
         if slow::parts::<K>(gate, line) == 0 {
-            check_controlled::<K>(rt, gate, line, Sign::Positive, true).note(line)?;
-            check_controlled::<K>(rt, gate, line, Sign::Negative, false).note(line)?;
+            check_controlled::<K>(rt, gate, line, Sign::Positive, true);
+            check_controlled::<K>(rt, gate, line, Sign::Negative, false);
             unused = unused.saturating_add(1);
         }
     }
-    Ok(unused)
+    unused
 }
 
 // All six rearrangements of each of the gates on three lines, of which there are so many.
@@ -118,18 +108,17 @@ fn check_renaming<K: GateKind + SlowKind>(
 ) -> Result<(), Fail> {
     let gates = all_gates::<K>(heap, 3)?;
     for gate in gates.iter() {
-        check_tables::<K>(rt, *gate).note(format_args!("{gate:?}"))?;
+        check_tables::<K>(rt, *gate);
     }
     assert_eq!(rt; gates.len(), count);
     Ok(())
 }
 
 // All six rearrangements of one gate's lines.
-fn check_tables<K: GateKind + SlowKind>(rt: &impl Abort, gate: Gate) -> Result<(), Fail> {
+fn check_tables<K: GateKind + SlowKind>(rt: &impl Abort, gate: Gate) {
     for (there, back) in TABLES {
-        check_renamed::<K>(rt, gate, there, back).note(format_args!("{there:?}"))?;
+        check_renamed::<K>(rt, gate, there, back);
     }
-    Ok(())
 }
 
 // All eight sets of lines to flip, for each of the gates on three lines, of which there are so many.
@@ -140,18 +129,17 @@ fn check_flipping<K: GateKind + SlowKind>(
 ) -> Result<(), Fail> {
     let gates = all_gates::<K>(heap, 3)?;
     for gate in gates.iter() {
-        check_flips::<K>(rt, *gate).note(format_args!("{gate:?}"))?;
+        check_flips::<K>(rt, *gate);
     }
     assert_eq!(rt; gates.len(), count);
     Ok(())
 }
 
 // All eight sets of lines to flip, for one gate.
-fn check_flips<K: GateKind + SlowKind>(rt: &impl Abort, gate: Gate) -> Result<(), Fail> {
+fn check_flips<K: GateKind + SlowKind>(rt: &impl Abort, gate: Gate) {
     for chosen in 0..8u32 {
-        check_flip::<K>(rt, gate, chosen).note(chosen)?;
+        check_flip::<K>(rt, gate, chosen);
     }
-    Ok(())
 }
 
 // One more control on each of the gates on three lines; in all so many lines are unused.
@@ -162,7 +150,7 @@ fn check_adding<K: GateKind + SlowKind>(
 ) -> Result<(), Fail> {
     let mut unused = 0usize;
     for gate in all_gates::<K>(heap, 3)?.iter() {
-        unused = unused.saturating_add(check_added_controls::<K>(rt, *gate)?);
+        unused = unused.saturating_add(check_added_controls::<K>(rt, *gate));
     }
     assert_eq!(rt; unused, count);
     Ok(())

@@ -15,39 +15,38 @@ fn check_forms<K: GateKind + SlowKind>(rt: &impl Abort) {
         assert_eq!(rt;
             K::is_well_formed(gate, 3),
             slow::is_well_formed::<K>(gate, 3),
-            "{}",
-            number
+            "{number}"
         );
         assert_eq!(rt;
             K::is_well_formed(gate, 4),
             slow::is_well_formed::<K>(gate, 4),
-            "{}",
-            number
+            "{number}"
         );
     }
 }
 
 // The gate leads from each of the 16 states to where the slow rule does.
-fn check_states<K: GateKind + SlowKind>(rt: &impl Abort, gate: Gate) -> Result<(), Fail> {
+fn check_states<K: GateKind + SlowKind>(rt: &impl Abort, gate: Gate) {
     for state in 0..16u32 {
         let expected = slow::run::<K>(gate, values_of(state));
-        assert_eq!(rt; K::run(gate, state), number_of(expected), "{}", state);
+        assert_eq!(rt;
+            K::run(gate, state),
+            number_of(expected),
+            "{gate:?} at {state}"
+        );
     }
-    Ok(())
 }
 
 // The lines of `targets` are those that the slow rule names.
-fn check_targets<K: GateKind + SlowKind>(rt: &impl Abort, gate: Gate) -> Result<(), Fail> {
+fn check_targets<K: GateKind + SlowKind>(rt: &impl Abort, gate: Gate) {
     let targets = values_of(K::targets(gate));
     for line in 0..4u8 {
         assert_eq!(rt;
             value_at(targets, line),
             K::is_target(gate, line),
-            "{}",
-            line
+            "{gate:?} at {line}"
         );
     }
-    Ok(())
 }
 
 // Every gate that is well formed for four lines, of which there are so many, runs as the slow rule does.
@@ -58,8 +57,8 @@ fn check_runs<K: GateKind + SlowKind>(
 ) -> Result<(), Fail> {
     let gates = all_gates::<K>(heap, 4)?;
     for gate in gates.iter() {
-        check_states::<K>(rt, *gate).note(format_args!("{gate:?}"))?;
-        check_targets::<K>(rt, *gate).note(format_args!("{gate:?}"))?;
+        check_states::<K>(rt, *gate);
+        check_targets::<K>(rt, *gate);
     }
     assert_eq!(rt; gates.len(), count);
     Ok(())

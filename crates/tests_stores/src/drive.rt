@@ -4,7 +4,6 @@ use crate::model::*;
 use crate::source::*;
 use gates::Gate;
 use std::process::Abort;
-use std::test::Fail;
 use stores::{Store, StoreRefusal};
 
 // How many calls a pile is driven through.
@@ -50,7 +49,7 @@ pub fn numbered<T>(answer: Result<T, StoreRefusal>) -> Result<T, u8> {
 }
 
 // The store shows the list, gate for gate, and can hold as many gates.
-pub fn check_same<S: Store>(rt: &impl Abort, store: &S, model: &Model) -> Result<(), Fail> {
+pub fn check_same<S: Store>(rt: &impl Abort, store: &S, model: &Model) {
     assert_eq!(rt; store.lines(), 4);
     assert_eq!(rt; store.capacity(), model.capacity);
     assert_eq!(rt; store.count(), model.count);
@@ -58,12 +57,10 @@ pub fn check_same<S: Store>(rt: &impl Abort, store: &S, model: &Model) -> Result
         assert_eq!(rt;
             numbered(store.read(place)),
             Ok(model.at(place)),
-            "{}",
-            place
+            "place {place}"
         );
     }
     assert_eq!(rt; numbered(store.read(model.count)), Err(9));
-    Ok(())
 }
 
 // One call, with the same answer by both.
@@ -73,7 +70,7 @@ fn perform<S: Store, K: TestKind>(
     model: &mut Model,
     source: &mut Source,
     tally: &mut Tally,
-) -> Result<(), Fail> {
+) {
     let call = source.next() % 8;
     let place = source.next_place(model.count);
     let gate = K::gate_of(source.next());
@@ -81,39 +78,30 @@ fn perform<S: Store, K: TestKind>(
         let expected = model.insert::<K>(place, gate);
         tally.count(&expected);
         assert_eq!(rt; numbered(store.insert(place, gate)), expected);
-        Ok(())
     } else if call < 6 {
         let expected = model.remove(place);
         tally.count(&expected);
         assert_eq!(rt; numbered(store.remove(place)), expected);
-        Ok(())
     } else {
         let expected = model.overwrite::<K>(place, gate);
         tally.count(&expected);
         assert_eq!(rt; numbered(store.overwrite(place, gate)), expected);
-        Ok(())
     }
 }
 
 // All the calls of a seed; each number of refusal has to occur.
-pub fn drive<S: Store, K: TestKind>(
-    rt: &impl Abort,
-    store: &mut S,
-    model: &mut Model,
-    seed: u32,
-) -> Result<(), Fail> {
+pub fn drive<S: Store, K: TestKind>(rt: &impl Abort, store: &mut S, model: &mut Model, seed: u32) {
     let mut source = Source::new(seed);
     let mut tally = Tally::new();
-    check_same(rt, store, model)?;
-    for step in 0..STEPS {
-        perform::<S, K>(rt, store, model, &mut source, &mut tally).note(step)?;
-        check_same(rt, store, model).note(step)?;
+    check_same(rt, store, model);
+    for _ in 0..STEPS {
+        perform::<S, K>(rt, store, model, &mut source, &mut tally);
+        check_same(rt, store, model);
     }
     assert!(rt; tally.answered > 100);
     assert!(rt; tally.bad_gates > 5);
     assert!(rt; tally.full > 5);
     assert!(rt; tally.no_places > 5);
-    Ok(())
 }
 
 // Takes gates out and puts gates in until the list has 8.

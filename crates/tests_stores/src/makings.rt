@@ -3,6 +3,7 @@ use crate::drive::*;
 use crate::model::*;
 use gates::{Gate, Toffoli};
 use std::process::Abort;
+use std::test::Fail;
 use stores::{
     GapStore, PlainStore, Renamed, Store, Window, check_lines, check_table, check_window,
 };
