@@ -21,6 +21,7 @@ OF_A_GOAL = re.compile(r":\s*(goal|given|rules)\.")
 FUNCTION = re.compile(r"^\s*(?:pub(?:\(crate\))?\s+)?fn\s+(\w+)")
 LIBRARY = re.compile(r"^\s*(?:ghost\s+|pub\s+)*use\s+(?!Rattle\.(?:gates|stores|search|workspace|tests_walk)\.)[^{]*\{([^}]*)\}")
 TOKEN = re.compile(r"[^\s(){}.,;:\[\]|`]+")
+COMMENT = re.compile(r"\s*(?:--|//)")
 CHAIN = re.compile(r"[\w'·-]+(?:\.[\w'·-]+)*\.$")
 OF_THE_CODE = {"c", "l", "w", "g"}
 
@@ -103,7 +104,11 @@ def turn(path, new, fields):
     lines = text.split("\n")
     kept = {word.split(" as ")[0].strip() for line in lines for found in [LIBRARY.match(line)] if found for word in found[1].split(",")}
     of_function = os.path.basename(path) in ("Answers.antt", "Invariants.antt", "Choices.antt", "Proof.antt")
-    after = "\n".join(turn_line(line, new, fields, kept, of_function) for line in lines)
+    turned = lambda line: turn_line(line, new, fields, kept, of_function)
+    if path.endswith(".md"):
+        after = re.sub(r"`[^`\n]*`", lambda found: turned(found[0]), text)
+    else:
+        after = "\n".join(line if COMMENT.match(line) else turned(line) for line in lines)
     if after != text:
         with open(path, "w", encoding="utf-8") as it:
             it.write(after)

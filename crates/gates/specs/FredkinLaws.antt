@@ -365,7 +365,7 @@ local n g f s u = fun_ext λ i. at i (cases_lt i n)
     at i (inr ge) =
         aside g (upto n s u) i (λ e. omega (arith, h.order, h.below)) (λ e. omega (arith, h.below)) ∙ upto_above n s u i ge ∙ sym (upto_above n (fredkin.sends g s) u i ge)
 
--- a line that a well_formed gate neither reads nor changes is neither exchanged nor a control
+-- a line that a well-formed gate neither reads nor changes is neither exchanged nor a control
 module _ (n l : ℕ) (g : Gate) (h : Shape n g) (below-n : l < n) (idle : Idle fredkin g l) where
   -- line a is 1, line b is 0, and the controls hold
   start : State

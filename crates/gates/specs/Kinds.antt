@@ -57,7 +57,7 @@ pub record AddedLines (k : KindMeaning) (l : ℕ) (sign : Sign) (g h : Gate) : T
   pub negative : h.negative ≡ more_negative l sign g.negative
   pub targets : k.targets h ≡ k.targets g
 
--- the laws of a kind: for well_formed gates and for every state
+-- the laws of a kind: for well-formed gates and for every state
 pub record KindLaws (k : KindMeaning) : Type 0 where
   -- a gate well formed for n lines neither reads nor changes the lines from n on
   pub local : (n : ℕ) (g : Gate) → Formed k n g → (s u : State) → k.sends g (upto n s u) ≡ upto n (k.sends g s) u

@@ -13,7 +13,7 @@ use Rattle.gates.specs.Toffoli.{fires, toffoli}
 use Rattle.gates.specs.States.{with_here, with_there, upto_below, upto_above, through_at, inverted_if_twice, inverted_if_both, opposite}
 use Rattle.gates.specs.ControlSets.{Sets, sets_of, form_of, steady, steady_with, steady_upto, ready, fails, in_table, table_lt, outside_ne, same_line, control_at, renamed_sets, renamed_hold, only_member, is_member, empty_renamed, member_renamed, set_back, unmoved_at, set_unmoved, flipped_sets, flipped_control, flipped_hold, more_control, more_hold, more_sets}
 
--- what a well_formed gate has
+-- what a well-formed gate has
 record Shape (n : ℕ) (g : Gate) : Type 0 where
   sets : Sets n g.positive g.negative
   target : g.a < n
@@ -153,7 +153,7 @@ local n g f s u = fun_ext λ i. at i (cases_lt i n)
         ∙ sym (upto_below n (toffoli.sends g s) u i lt)
     at i (inr ge) = aside g (upto n s u) i (λ e. omega (arith, h.target)) ∙ upto_above n s u i ge ∙ sym (upto_above n (toffoli.sends g s) u i ge)
 
--- a line that a well_formed gate neither reads nor changes is neither its target nor a control
+-- a line that a well-formed gate neither reads nor changes is neither its target nor a control
 module _ (n l : ℕ) (g : Gate) (h : Shape n g) (below : l < n) (idle : Idle toffoli g l) where
   start : State
   start = bit g.positive

@@ -5,7 +5,7 @@ ghost use Rattle.gates.specs.Lines.{bit};
 
 use super::{Gate, LineSet, Sign};
 
-// Every call takes any gate, line, table and set; `means` says what it gives, and `lawful` what holds of well_formed gates.
+// Every call takes any gate, line, table and set; `means` says what it gives, and `lawful` what holds of well-formed gates.
 pub trait GateKind {
     ghost means: { KindMeaning };
 

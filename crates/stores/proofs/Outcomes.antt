@@ -31,7 +31,7 @@ module _ (k : KindMeaning) (m : StoreMeaning) (place : ℕ) (g : Gate) (formed :
   pub overwrite_ok : place < length m.gates → overwrite_outcome k m place g ≡ Ok (tt, with_gates m (set m.gates place g))
   overwrite_ok lt = provided_true _ _ _ (lt-ltb place (length m.gates) lt) ∙ provided_true _ _ _ formed
 
-  -- a well_formed gate at a place that there is: only the capacity is left to ask
+  -- a well-formed gate at a place that there is: only the capacity is left to ask
   pub insert_asks : place ≤ length m.gates → insert_outcome k m place g ≡ provided (ltb (length m.gates) m.capacity) Full (Ok (tt, with_gates m (insert m.gates place g)))
   insert_asks le = provided_true _ _ _ (le-leb place (length m.gates) le) ∙ provided_true _ _ _ formed
 

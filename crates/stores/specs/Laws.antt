@@ -7,7 +7,7 @@ use Rattle.gates.specs.Cascades.{run}
 use Rattle.stores.specs.Stores.{StoreMeaning, Outcome, Bounded, Sound, after, overwrite_outcome, insert_outcome, remove_outcome}
 use Rattle.stores.specs.Mounts.{reversed, renamed_by, rearranges, inverse_of, Rearranged, window}
 
--- what a call may leave of a store: the lines, the capacity and the gates outside each window as they were, a list that fits, and well_formed gates where they were well formed
+-- what a call may leave of a store: the lines, the capacity and the gates outside each window as they were, a list that fits, and well-formed gates where they were well formed
 pub record Kept (k : KindMeaning) (before now : StoreMeaning) : Type 0 where
   pub lines : now.lines ≡ before.lines
   pub capacity : now.capacity ≡ before.capacity

@@ -33,6 +33,30 @@ pub const T0_1: Gate = Gate {
     negative: 0,
 };
 
+// `t 0 +1 +2`.
+pub const T0_1_2: Gate = Gate {
+    a: 0,
+    b: 0,
+    positive: 6,
+    negative: 0,
+};
+
+// `t 1 -3`.
+pub const T1_NOT_3: Gate = Gate {
+    a: 1,
+    b: 0,
+    positive: 0,
+    negative: 8,
+};
+
+// `t 0 +2 -3`.
+pub const T0_2_NOT_3: Gate = Gate {
+    a: 0,
+    b: 0,
+    positive: 4,
+    negative: 8,
+};
+
 // `t 0 +0`, which is well formed for no number of lines.
 pub const OWN_CONTROL: Gate = Gate {
     a: 0,

@@ -14,4 +14,6 @@ mod order;
 #[cfg(test)]
 mod refusals;
 #[cfg(test)]
+mod sweeps;
+#[cfg(test)]
 mod verdict;

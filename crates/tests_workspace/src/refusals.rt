@@ -3,7 +3,7 @@ use crate::gate_list::*;
 use crate::verdict::*;
 use gates::{Fredkin, Toffoli};
 
-// 1: more than four lines. (A template of no lines breaks a second rule: it has no well_formed gate.)
+// 1: more than four lines. (A template of no lines breaks a second rule: it has no well-formed gate.)
 #[test]
 fn lines(rt: HostRuntime) {
     expect::<Toffoli>(&rt, 5, &[T0, T0], &[], 1);

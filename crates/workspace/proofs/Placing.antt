@@ -120,7 +120,7 @@ module _ {k : KindMeaning} (laws : KindLaws k) where
     unfolding round
     posed_formed = flips_formed
 
-    -- what renaming gives a well_formed gate, each turned gate has
+    -- what renaming gives a well-formed gate, each turned gate has
     pub turned_all : (P : Gate → Type 0) → ((g : Gate) → Formed k e.lines g → P (k.renamed t.table g)) → Gates P (turned k t (placed e.gates))
     unfolding round
     turned_all P f =
