@@ -3,7 +3,7 @@ use Rattle.std.proofs.Common.{◌≡◌, ℕ, ◌^◌, ◌<◌, ◌≤◌, Bool,
 use Rattle.std.specs.List.{AllByRecursion}
 use mathlib.Core.Path.{fun_ext}
 use mathlib.Core.List.{reverse-cons}
-use Rattle.std.proofs.lemmas.List.{map-append, take-append-drop, reverse-append, reverse-reverse}
+use Rattle.std.proofs.lemmas.List.{map-append, take-append-drop, reverse-append}
 use Rattle.std.proofs.ByRecursion.{All-append, All-drop, All-map, All-weaker, All-get_or}
 use Rattle.std.proofs.lemmas.Bool.{cases_lt}
 use Rattle.gates.specs.declared.gate.Gate.{Gate}

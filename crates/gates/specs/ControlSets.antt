@@ -7,10 +7,10 @@ use Rattle.std.proofs.ByRecursion.{All-get_or, All-weaker, All-from_get_or}
 use Rattle.std.proofs.lemmas.Bool.{cases_lt, cases_eq, eq-eqb, ne_eqb, eqb-true, both_ways, or_cases, or_right, leb-true, le-leb, ltb-true, lt-ltb, and_parts, and_from, not-true, not_from_false, or_parts, or_from}
 use Rattle.gates.specs.declared.gate.Sign.{Sign}
 use Rattle.gates.specs.declared.gate.Sign.TheVariants.{Positive, Negative}
-use Rattle.gates.specs.Lines.{State, Table, Outside, width, bit, with_line_lem, upto, inverted, through, where_below, every_below, unmoved, counted}
+use Rattle.gates.specs.Lines.{State, Table, Outside, width, bit, with_line_lem, upto, inverted, through, every_below, unmoved, counted}
 use Rattle.gates.specs.Controls.{control, allows, apart, controls_hold, controls_form, image, renamed_set, exchanged, with_member, wanted, more_positive, more_negative}
 use Rattle.gates.specs.Members.{bit_none, bit_where, bit_above, where_lt, where_lt_of, set_ext, every_same, every_at, every_of}
-use Rattle.gates.specs.States.{with_here, with_there, upto_below, upto_above, through_at, in_or_out}
+use Rattle.gates.specs.States.{with_here, with_there, upto_below, through_at, in_or_out}
 
 -- one test and another that is true with it
 pub iff_same : (a b : Bool) → (a ≡ true → b ≡ true) → (b ≡ true → a ≡ true) → a ≡ b

@@ -1,5 +1,5 @@
 -- Worked examples: questions about the definitions, each with the answer that the rules give.
-use Rattle.std.specs.Prelude.{◌≡◌, ℕ, suc, Bool, true, false, List, [], ◌∷◌, length, is_some, slice_index_or}
+use Rattle.std.specs.Prelude.{◌≡◌, ℕ, suc, Bool, true, false, List, [], ◌∷◌, is_some, slice_index_or}
 use Rattle.std.specs.List.{AllByRecursion}
 use Rattle.gates.specs.declared.gate.Gate.{Gate}
 use Rattle.gates.specs.Lines.{State}

@@ -1,5 +1,5 @@
 -- Fredkin gates keep the laws of a kind.
-use Rattle.std.specs.Prelude.{◌≡◌, ℕ, ◌<◌, ◌≤◌, min, max, Bool, true, false, cond, not, ◌&&◌, ◌||◌, ◌⊎◌, List, length, Some, None, Option, ◌==◌, ◌≢◌, nat_lt, slice_index, slice_index_or, refl}
+use Rattle.std.specs.Prelude.{◌≡◌, ℕ, ◌<◌, ◌≤◌, min, max, Bool, true, false, cond, not, ◌&&◌, ◌||◌, ◌⊎◌, List, Some, None, Option, ◌==◌, ◌≢◌, nat_lt, slice_index, slice_index_or, refl}
 use Rattle.std.proofs.Common.{sym, ap, ap₂, ◌∙◌, subst, inl, inr, arith}
 use Rattle.std.proofs.Math.Path.{fun_ext}
 use Rattle.std.specs.Bool.{beq}
@@ -7,9 +7,9 @@ use Rattle.std.proofs.lemmas.Bool.{both_ways, cases_lt, cases_eq, cases_Bool, eq
 use Rattle.gates.specs.declared.gate.Gate.{Gate}
 use Rattle.gates.specs.declared.gate.Sign.{Sign}
 use Rattle.gates.specs.Lines.{State, Table, Outside, width, bit, with_line_lem, upto, inverted_if, inverted, through, unmoved}
-use Rattle.gates.specs.Kinds.{KindMeaning, KindLaws, Formed, Idle, SameLines, MovedLines, FlippedLines, AddedLines}
+use Rattle.gates.specs.Kinds.{KindLaws, Formed, Idle, MovedLines, FlippedLines}
 use Rattle.gates.specs.Controls.{gate, reads, control, controls_hold, with_member, renamed_set, wanted, with_flipped_controls_lem}
-use Rattle.gates.specs.Fredkin.{other, fires, clear_of, same_pair, disjoint_pairs, fredkin}
+use Rattle.gates.specs.Fredkin.{other, fires, same_pair, disjoint_pairs, fredkin}
 use Rattle.gates.specs.States.{with_here, with_there, upto_below, upto_above, through_at, inverted_if_twice, opposite, beq_same}
 use Rattle.gates.specs.ControlSets.{Sets, sets_of, form_of, steady, steady_with, steady_upto, ready, fails, in_table, table_lt, outside_ne, control_at, renamed_sets, renamed_hold, two_members, is_member, still_member, empty_renamed, member_renamed, members_swap, set_back, unmoved_at, set_unmoved, flipped_sets, flipped_control, flipped_hold, more_control, more_hold, more_sets}
 use Rattle.gates.specs.ToffoliLaws.{some_same}

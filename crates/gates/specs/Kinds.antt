@@ -4,7 +4,7 @@ use Rattle.std.specs.Bool.{beq}
 use Rattle.gates.specs.declared.gate.Gate.{Gate}
 use Rattle.gates.specs.declared.gate.Sign.{Sign}
 use Rattle.gates.specs.Lines.{State, bit, with_line_lem, upto, inverted, through, Outside, Table, unmoved}
-use Rattle.gates.specs.Controls.{reads, image, renamed_set, exchanged, more_positive, more_negative, wanted}
+use Rattle.gates.specs.Controls.{reads, renamed_set, exchanged, more_positive, more_negative, wanted}
 
 -- a kind, by what its gates are and do
 pub record KindMeaning : Type 0 where

@@ -1,11 +1,11 @@
 -- Sets of lines as numbers: their members, and sets that are made of tests.
-use Rattle.std.specs.Prelude.{◌≡◌, ℕ, zero, suc, ◌+◌, ◌*◌, ◌/◌, ◌%◌, ◌^◌, ◌<◌, ◌≤◌, Bool, true, false, cond, not, ◌&&◌, ◌⊎◌, ◌==◌, nat_eq, refl}
+use Rattle.std.specs.Prelude.{◌≡◌, ℕ, zero, suc, ◌/◌, ◌%◌, ◌^◌, ◌<◌, ◌≤◌, Bool, true, false, cond, ◌&&◌, ◌⊎◌, ◌==◌, nat_eq, refl}
 use Rattle.std.proofs.Common.{sym, ap, ◌∙◌, subst, inl, inr, div-one, pow-suc, one-add, arith, pow_mono}
 use Rattle.std.proofs.Math.Path.{fun_ext}
 use Rattle.std.proofs.Math.Nat.{div-eq_of_lt, zero-div}
 use Rattle.std.proofs.lemmas.Nat.{shr-shr, div-mul-add, mod-mul-add}
 use Rattle.std.proofs.lemmas.Bool.{cases_lt, eqb-true, eqb-false, and_parts, and_from}
-use Rattle.gates.specs.Lines.{State, bit, upto, where_below, every_below}
+use Rattle.gates.specs.Lines.{bit, upto, where_below, every_below}
 use Rattle.gates.specs.States.{upto_below, upto_above}
 
 pub bit_first : (m : ℕ) → bit m 0 ≡ (m % 2 == 1)

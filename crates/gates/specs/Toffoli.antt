@@ -1,5 +1,5 @@
 -- Toffoli gates: line a is the target, field b is not used.
-use Rattle.std.specs.Prelude.{ℕ, Bool, not, ◌&&◌, Some, ◌==◌, nat_lt, slice_index}
+use Rattle.std.specs.Prelude.{Bool, not, ◌&&◌, Some, ◌==◌, nat_lt, slice_index}
 use Rattle.gates.specs.declared.gate.Gate.{Gate}
 use Rattle.gates.specs.Lines.{State, width, inverted_if}
 use Rattle.gates.specs.Controls.{reads, controls_hold, controls_form, renamed_set, with_member, gate, with_flipped_controls_lem, with_control_lem}

@@ -1,5 +1,5 @@
 -- Toffoli gates keep the laws of a kind.
-use Rattle.std.specs.Prelude.{◌≡◌, ℕ, ◌<◌, ◌≤◌, Bool, true, false, cond, not, ◌&&◌, ◌||◌, ◌⊎◌, List, length, Some, ◌==◌, ◌≢◌, nat_lt, slice_index, refl}
+use Rattle.std.specs.Prelude.{◌≡◌, ℕ, ◌<◌, ◌≤◌, Bool, true, false, cond, not, ◌&&◌, ◌⊎◌, List, Some, ◌==◌, ◌≢◌, nat_lt, slice_index, refl}
 use Rattle.std.proofs.Common.{sym, ap₂, ◌∙◌, subst, inl, inr, arith}
 use Rattle.std.proofs.Math.Path.{ap, fun_ext}
 use Rattle.std.specs.Bool.{beq}
@@ -7,8 +7,8 @@ use Rattle.std.proofs.lemmas.Bool.{both_ways, cases_lt, cases_eq, cases_Bool, eq
 use Rattle.gates.specs.declared.gate.Gate.{Gate}
 use Rattle.gates.specs.declared.gate.Sign.{Sign}
 use Rattle.gates.specs.Lines.{State, Table, Outside, width, bit, with_line_lem, upto, inverted_if, inverted, through, unmoved}
-use Rattle.gates.specs.Kinds.{KindMeaning, KindLaws, Formed, Idle, SameLines, MovedLines, FlippedLines, AddedLines}
-use Rattle.gates.specs.Controls.{gate, reads, controls_hold, with_member, renamed_set, wanted, with_control_lem}
+use Rattle.gates.specs.Kinds.{KindLaws, Formed, Idle, MovedLines, FlippedLines}
+use Rattle.gates.specs.Controls.{gate, reads, controls_hold, with_member, wanted}
 use Rattle.gates.specs.Toffoli.{fires, toffoli}
 use Rattle.gates.specs.States.{with_here, with_there, upto_below, upto_above, through_at, inverted_if_twice, inverted_if_both, opposite}
 use Rattle.gates.specs.ControlSets.{Sets, sets_of, form_of, steady, steady_with, steady_upto, ready, fails, in_table, table_lt, outside_ne, same_line, control_at, renamed_sets, renamed_hold, only_member, is_member, empty_renamed, member_renamed, set_back, unmoved_at, set_unmoved, flipped_sets, flipped_control, flipped_hold, more_control, more_hold, more_sets}

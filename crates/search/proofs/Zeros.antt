@@ -1,5 +1,5 @@
 -- What `trailing_zeros` says of the members of a set.
-use Rattle.std.proofs.Common.{◌≡◌, ℕ, zero, suc, ◌/◌, ◌%◌, ◌^◌, ◌<◌, Bool, true, false, eqb, refl, ap, ◌∙◌, pow-suc, arith}
+use Rattle.std.proofs.Common.{◌≡◌, ℕ, zero, suc, ◌/◌, ◌%◌, ◌^◌, ◌<◌, true, false, eqb, refl, ap, ◌∙◌, pow-suc, arith}
 use lib.Count.{count_trailing_zeros, under}
 use Rattle.gates.specs.Lines.{bit}
 use Rattle.gates.specs.Members.{bit_first, bit_next}

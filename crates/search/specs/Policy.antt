@@ -1,5 +1,5 @@
 -- What a policy means, and what it singles out of a list that it is shown.
-use Rattle.std.specs.Prelude.{◌≡◌, ℕ, Bool, true, false, List, [], ◌∷◌, Some, None, Option, ◌≢◌}
+use Rattle.std.specs.Prelude.{ℕ, Bool, true, false, List, [], ◌∷◌, Some, None, Option, ◌≢◌}
 use Rattle.search.specs.declared.policy.Shown.{Shown}
 use Rattle.search.specs.declared.policy.Reply.{Reply}
 use Rattle.search.specs.declared.policy.Reply.TheVariants.{Leave, Take, Close}

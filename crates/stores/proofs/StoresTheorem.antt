@@ -1,23 +1,22 @@
 -- The laws of stores and mounts.
-use Rattle.std.proofs.Common.{◌≡◌, ℕ, zero, suc, ◌+◌, ◌-◌, ◌<◌, ◌≤◌, min, Bool, true, false, cond, not, ◌&&◌, ◌||◌, eqb, ltb, leb, ◌⊎◌, List, [], ◌∷◌, ◌++◌, map, length, get_or, take, drop, set, Ok, Err, Decides, Result, sym, refl, ap, ◌∙◌, subst, ap₂, inl, inr, arith}
+use Rattle.std.proofs.Common.{◌≡◌, ℕ, zero, suc, ◌+◌, ◌<◌, ◌≤◌, Bool, true, false, ◌||◌, eqb, ltb, leb, ◌⊎◌, List, [], ◌∷◌, ◌++◌, map, length, get_or, take, drop, set, Decides, sym, refl, ap, ◌∙◌, ap₂, inl, inr, arith}
 use Rattle.std.specs.List.{AllByRecursion}
 use Rattle.std.specs.List.{insert, remove}
 use Rattle.std.proofs.lemmas.List.{length-set, take-append-drop, drop-drop}
 use Rattle.std.proofs.lemmas.List.Edits.{length-insert, length-remove}
 use Rattle.std.proofs.ByRecursion.{All-append, All-take, All-drop, All-set, All-map, All-weaker, All-get_or}
-use Rattle.std.proofs.lemmas.Bool.{false≢true, cases_Bool, cases_lt, cases_eq, ltb-true, leb-true, eq-eqb, ne_eqb, le-leb, lt-ltb, and_parts, and_from, not_from_false, or_from}
+use Rattle.std.proofs.lemmas.Bool.{false≢true, ltb-true, leb-true, eq-eqb, ne_eqb, le-leb, lt-ltb, and_from, not_from_false, or_from}
 use Rattle.gates.specs.declared.gate.Gate.{Gate}
-use Rattle.gates.specs.Lines.{State, Table, Outside, width, bit, through, every_below}
+use Rattle.gates.specs.Lines.{State, Outside, width, bit, through}
 use Rattle.gates.specs.Controls.{with_member}
 use Rattle.gates.specs.Kinds.{KindMeaning, KindLaws, Formed}
-use Rattle.gates.specs.Cascades.{run, backward}
+use Rattle.gates.specs.Cascades.{run}
 use Rattle.gates.specs.Members.{every_of, bit_none}
 use Rattle.gates.specs.ControlSets.{member_at}
 use Rattle.gates.proofs.Runs as runs
 use Rattle.stores.specs.declared.refusal.StoreRefusal.{StoreRefusal}
-use Rattle.stores.specs.declared.refusal.StoreRefusal.TheVariants.{Full}
 use Rattle.stores.specs.Stores.{StoreMeaning, Outcome, Bounded, Sound, with_gates, provided, after, overwrite_outcome, insert_outcome, remove_outcome}
-use Rattle.stores.specs.Mounts.{reversed, renamed_by, completes, rearranges, inverse_of, Rearranged, window, windowed, start_in, size_in}
+use Rattle.stores.specs.Mounts.{renamed_by, completes, rearranges, inverse_of, Rearranged, window, start_in, size_in}
 use Rattle.stores.specs.Laws.{Kept, Between, StoreLaws}
 use Rattle.stores.proofs.Rearranging.{rearranged}
 

@@ -1,10 +1,9 @@
 -- Windows: what an edit inside leaves of the list between its outsides, and of these.
-use Rattle.std.proofs.Common.{◌≡◌, ℕ, zero, suc, ◌+◌, ◌-◌, ◌<◌, ◌≤◌, min, List, [], ◌∷◌, ◌++◌, length, get_or, take, drop, set, sym, refl, ap, ◌∙◌, ap₂, arith}
+use Rattle.std.proofs.Common.{◌≡◌, ℕ, zero, suc, ◌+◌, ◌-◌, ◌<◌, ◌≤◌, min, List, [], ◌∷◌, length, get_or, take, drop, set, refl, ap, ◌∙◌, ap₂, arith}
 use Rattle.std.specs.List.{insert, remove}
 use Rattle.std.proofs.lemmas.List.{length-take, length-drop, length-set, get_or-take, get_or-drop, drop-set-add, take-set-le, drop-set-lt}
 use Rattle.std.proofs.lemmas.List.Edits.{length-insert, length-remove}
 use Rattle.gates.specs.declared.gate.Gate.{Gate}
-use Rattle.gates.specs.Controls.{gate}
 use Rattle.stores.specs.Stores.{StoreMeaning, with_gates}
 use Rattle.stores.specs.Mounts.{windowed, window, start_in, size_in}
 use Rattle.stores.proofs.Outcomes.{take_set_in}

@@ -1,10 +1,10 @@
 -- The laws of stores and mounts, which hold for every kind.
-use Rattle.std.specs.Prelude.{◌≡◌, ℕ, Bool, true, List, ◌∷◌, ◌++◌, Decides}
+use Rattle.std.specs.Prelude.{◌≡◌, ℕ, true, List, ◌∷◌, ◌++◌, Decides}
 use Rattle.gates.specs.declared.gate.Gate.{Gate}
 use Rattle.gates.specs.Lines.{State, Outside, through}
 use Rattle.gates.specs.Kinds.{KindMeaning}
 use Rattle.gates.specs.Cascades.{run}
-use Rattle.stores.specs.Stores.{StoreMeaning, Outcome, Bounded, Sound, after, overwrite_outcome, insert_outcome, remove_outcome}
+use Rattle.stores.specs.Stores.{StoreMeaning, Bounded, Sound, after, overwrite_outcome, insert_outcome, remove_outcome}
 use Rattle.stores.specs.Mounts.{reversed, renamed_by, rearranges, inverse_of, Rearranged, window}
 
 -- what a call may leave of a store: the lines, the capacity and the gates outside each window as they were, a list that fits, and well-formed gates where they were well formed

@@ -1,12 +1,12 @@
 -- Mounts are bounded as every store is.
-use Rattle.std.specs.Prelude.{◌≡◌, ℕ, ◌+◌, ◌-◌, ◌≤◌, min, List, map, reverse, length, take, drop}
-use Rattle.std.proofs.Common.{sym, ap, ◌∙◌, arith}
+use Rattle.std.specs.Prelude.{◌≡◌, ℕ, List, map, reverse, length, drop}
+use Rattle.std.proofs.Common.{◌∙◌, arith}
 use Rattle.std.proofs.lemmas.List.{length-map, length-reverse, length-take, length-drop}
 use Rattle.gates.specs.declared.gate.Gate.{Gate}
 use Rattle.gates.specs.Kinds.{KindMeaning}
 use Rattle.gates.specs.Cascades.{backward}
 use Rattle.stores.specs.Stores.{StoreMeaning, Bounded, with_gates}
-use Rattle.stores.specs.Mounts.{reversed, shown_gate, renamed_view, windowed, window, start_in, size_in}
+use Rattle.stores.specs.Mounts.{reversed, shown_gate, renamed_view, window, start_in, size_in}
 
 -- another list of the same length fits as well
 pub same_bounded : (m : StoreMeaning) (gates : List Gate) → length gates ≡ length m.gates → Bounded m → Bounded (with_gates m gates)

@@ -1,5 +1,5 @@
 -- Mounts: stores made of another store. A call on a mount changes the store below so that the mount's own list is as promised.
-use Rattle.std.specs.Prelude.{◌≡◌, ℕ, zero, suc, ◌+◌, ◌-◌, ◌<◌, min, Bool, true, cond, not, ◌&&◌, List, [], ◌∷◌, map, length, take, drop, Ok, Result, ◌==◌, nat_le, nat_lt, slice_index}
+use Rattle.std.specs.Prelude.{◌≡◌, ℕ, suc, ◌+◌, ◌-◌, ◌<◌, min, Bool, cond, not, ◌&&◌, List, [], ◌∷◌, map, length, take, drop, Ok, Result, ◌==◌, nat_le, nat_lt, slice_index}
 use Rattle.gates.specs.declared.gate.Gate.{Gate}
 use Rattle.gates.specs.Lines.{Table, width, bit, every_below, counted}
 use Rattle.gates.specs.Controls.{with_member}

@@ -1,5 +1,5 @@
 -- What a store means, what its calls answer and what they leave.
-use Rattle.std.specs.Prelude.{◌≡◌, ℕ, ◌≤◌, Bool, cond, List, [], ◌∷◌, ◌++◌, length, Ok, Err, Result, nat_le, nat_lt, slice_index_or, slice_set}
+use Rattle.std.specs.Prelude.{ℕ, ◌≤◌, Bool, cond, List, length, Ok, Err, Result, nat_le, nat_lt, slice_index_or, slice_set}
 use Rattle.std.specs.List.{AllByRecursion}
 use Rattle.std.specs.List.{insert, remove}
 use Rattle.gates.specs.declared.gate.Gate.{Gate}

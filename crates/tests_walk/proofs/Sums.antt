@@ -1,7 +1,7 @@
 -- What a triple says of its numbers, one by one.
-use Rattle.std.proofs.Common.{◌≡◌, ℕ, ◌+◌, ◌-◌, ◌<◌, ◌≤◌, true, false, List, [], ◌∷◌, ◌++◌, length, get_or, refl, ap, ◌∙◌, arith}
+use Rattle.std.proofs.Common.{◌≡◌, ℕ, ◌+◌, ◌-◌, ◌<◌, ◌≤◌, true, false, List, [], ◌∷◌, ◌++◌, length, get_or, refl, arith}
 use Rattle.std.proofs.lemmas.Bool.{false≢true}
-use Rattle.tests_walk.specs.Triples.{Triple, triple?, sum_of}
+use Rattle.tests_walk.specs.Triples.{triple?, sum_of}
 use Rattle.tests_walk.specs.Facts.{decides_triple}
 
 module _ (total : ℕ) where

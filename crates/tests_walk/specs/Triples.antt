@@ -1,5 +1,5 @@
 -- Three numbers that add up to a total, as keys.
-use Rattle.std.specs.Prelude.{◌≡◌, ℕ, ◌+◌, ◌-◌, ◌<◌, Bool, true, false, ◌&&◌, List, [], ◌∷◌, ◌==◌, nat_lt, slice_index}
+use Rattle.std.specs.Prelude.{◌≡◌, ℕ, ◌+◌, ◌-◌, ◌<◌, Bool, false, ◌&&◌, List, [], ◌∷◌, ◌==◌, nat_lt, slice_index}
 use Rattle.search.specs.declared.policy.Shown.{Shown}
 
 -- three numbers, the first below 4,096 and the others below 64, with that total

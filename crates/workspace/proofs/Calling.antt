@@ -1,23 +1,20 @@
 -- What the calls that change a workspace come to, by what they do to its store and its shelf.
-use Rattle.std.proofs.Common.{◌≡◌, ℕ, suc, ◌<◌, ◌≤◌, Bool, true, false, cond, ltb, leb, List, [], ◌∷◌, ◌++◌, length, take, drop, Some, None, Ok, Err, Option, Result, sym, refl, ap, ◌∙◌, subst, ap₂, arith}
-use Rattle.std.specs.List.{AllByRecursion}
+use Rattle.std.proofs.Common.{◌≡◌, ℕ, suc, ◌<◌, Bool, true, false, ltb, List, [], ◌∷◌, ◌++◌, length, take, drop, None, Ok, Result, refl, ap, ◌∙◌, ap₂, arith}
 use Rattle.std.specs.List.{insert, remove}
 use Rattle.std.proofs.ByRecursion.{All-append, All-take, All-drop}
-use Rattle.std.proofs.lemmas.List.{take_all, drop_all, append-nil}
+use Rattle.std.proofs.lemmas.List.{take_all, drop_all}
 use Rattle.std.proofs.lemmas.Bool.{le-leb, lt-ltb}
 use Rattle.gates.specs.declared.gate.Gate.{Gate}
 use Rattle.gates.specs.declared.gate.GateRefusal.TheVariants.{NotWellFormed}
 use Rattle.gates.specs.Kinds.{KindMeaning, KindLaws}
-use Rattle.stores.specs.declared.refusal.StoreRefusal.{StoreRefusal}
 use Rattle.stores.specs.declared.refusal.StoreRefusal.TheVariants.{Gate as Refused-gate, Full}
 use Rattle.stores.specs.Stores.{StoreMeaning, with_gates, insert_outcome}
 use Rattle.stores.specs.Stores as stores
 use Rattle.stores.proofs.Outcomes as stores-outcomes
 use Rattle.stores.proofs.StoresTheorem.{store_laws_lem}
-use Rattle.workspace.specs.declared.refusal.TemplateRefusal.{TemplateRefusal}
 use Rattle.workspace.specs.Templates.{TemplateMeaning, MeetsRules}
 use Rattle.workspace.specs.TemplateTests.{template_test}
-use Rattle.workspace.specs.Conditions.{Condition, EntryMeaning, Sound, Outcome, entry, condition, answer, after, provided, shelved, append_outcome, shelve_outcome, withdraw_outcome, most_entries}
+use Rattle.workspace.specs.Conditions.{EntryMeaning, Sound, entry, condition, answer, after, provided, shelved, append_outcome, shelve_outcome, withdraw_outcome, most_entries}
 
 -- a gate put behind the last
 pub inserted_last : {X : Type 0} (xs : List X) (x : X) → insert xs (length xs) x ≡ xs ++ x ∷ []

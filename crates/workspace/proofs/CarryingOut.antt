@@ -1,19 +1,19 @@
 -- Taking the chosen gates out and putting the inverses of the template's other gates in is the replacement.
-use Rattle.std.proofs.Common.{◌≡◌, ℕ, suc, ◌+◌, ◌-◌, ◌*◌, ◌<◌, ◌≤◌, min, Bool, not, List, [], ◌∷◌, ◌++◌, map, length, get_or, take, drop, sym, refl, ap, ◌∙◌, subst, ap₂, arith}
+use Rattle.std.proofs.Common.{◌≡◌, ℕ, ◌+◌, ◌-◌, ◌<◌, ◌≤◌, min, not, List, [], ◌∷◌, ◌++◌, map, length, take, drop, sym, refl, ap, ◌∙◌, subst, ap₂, arith}
 use Rattle.std.specs.List.{AllByRecursion}
 use Rattle.std.proofs.ByRecursion.{All-drop}
-use Rattle.std.proofs.lemmas.List.{take_at, drop_at, length-take-le, length-append, length-drop, length-map, length-take, drop-take, drop-map}
+use Rattle.std.proofs.lemmas.List.{take_at, drop_at, length-take-le, length-append, length-map, drop-take, drop-map}
 use Rattle.gates.specs.declared.gate.Gate.{Gate}
 use Rattle.gates.specs.Kinds.{KindMeaning, KindLaws, Formed}
 use Rattle.gates.specs.Cascades.{backward, picked}
 use Rattle.stores.specs.Stores.{StoreMeaning, Bounded, with_gates}
 use Rattle.workspace.specs.declared.posed.Member.{Member}
 use Rattle.workspace.specs.Templates.{TemplateMeaning, size}
-use Rattle.workspace.specs.Turns.{Placed, Added, turned_gates, turned_template, gates_of}
+use Rattle.workspace.specs.Turns.{turned_gates, gates_of}
 use Rattle.workspace.specs.Conditions.{Condition, Sound}
 use Rattle.workspace.specs.Edits.{without, with_inverses}
 use Rattle.workspace.specs.Matching.{members_of}
-use Rattle.workspace.specs.Occurrences.{Occurrence, OccursAs, places, template_on, is_chosen, after_replacing, saved}
+use Rattle.workspace.specs.Occurrences.{Occurrence, OccursAs, places, template_on, is_chosen, after_replacing}
 use Rattle.workspace.proofs.Occurring.{replacing_laws, adds_fit}
 use Rattle.workspace.proofs.Replacing as replacing
 use Rattle.workspace.proofs.Sweeping.{meets}

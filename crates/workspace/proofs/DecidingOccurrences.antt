@@ -1,5 +1,5 @@
 -- The test of an occurrence decides.
-use Rattle.std.proofs.Common.{◌≡◌, ℕ, zero, suc, ◌+◌, ◌-◌, ◌*◌, ◌<◌, ◌≤◌, Bool, true, false, cond, ◌&&◌, eqb, ltb, leb, List, [], ◌∷◌, ◌++◌, map, length, get_or, take, drop, Some, None, Decides, Option, sym, refl, ap, ◌∙◌, subst, ap₂, arith}
+use Rattle.std.proofs.Common.{◌≡◌, ℕ, suc, ◌+◌, ◌-◌, ◌*◌, ◌<◌, ◌≤◌, Bool, true, false, cond, eqb, ltb, leb, List, [], ◌∷◌, map, length, take, Some, None, Option, refl, ap, ◌∙◌, ap₂, arith}
 use Rattle.std.specs.List.{AllByRecursion}
 use Rattle.std.proofs.lemmas.List.{take_at, drop_at}
 use Rattle.std.proofs.lemmas.Bool.{false≢true, and_parts, and_from, eqb-true, eq-eqb, leb-true, le-leb, ltb-true, lt-ltb}
@@ -8,10 +8,9 @@ use Rattle.gates.specs.Controls.{gate}
 use Rattle.gates.specs.Kinds.{KindMeaning}
 use Rattle.workspace.specs.Templates.{size}
 use Rattle.workspace.specs.TemplateTests.{all_pass}
-use Rattle.workspace.specs.Turns.{Turn, Added, turned_gates}
-use Rattle.workspace.specs.TurnTests.{turn_test}
-use Rattle.workspace.specs.Conditions.{EntryMeaning, no_entry}
-use Rattle.workspace.specs.Occurrences.{Occurrence, places, key_of, template_on, at_places, additions, moves_front, is_chosen, Rising, OccursAs, Occurs}
+use Rattle.workspace.specs.Turns.{Added, turned_gates}
+use Rattle.workspace.specs.Conditions.{EntryMeaning}
+use Rattle.workspace.specs.Occurrences.{Occurrence, places, key_of, template_on, at_places, additions, Rising, OccursAs, Occurs}
 use Rattle.workspace.specs.OccurrenceTests.{same_gate, same_list, rising_test, equal_test, rules_test, named_by, named_test, occurs_test, OccurrencesDecided}
 use Rattle.workspace.proofs.DecidingTurns.{decides_turn}
 

@@ -5,7 +5,7 @@ use lib.Bits.{bit_and}
 use Rattle.std.proofs.lemmas.Nat.{and_le_l}
 use Rattle.std.proofs.lemmas.List.{get_or-set_same, get_or-set_other}
 use Rattle.std.proofs.lemmas.Bool.{cases_lt, cases_order, lt-ltb, le-ltb, eq-eqb, ne_eqb, eqb-true, and_from, and_right}
-use Rattle.gates.specs.Lines.{bit, every_below}
+use Rattle.gates.specs.Lines.{bit}
 use Rattle.gates.specs.Members.{bit_none, set_ext, every_of, every_at}
 use Rattle.gates.proofs.Masks.{bit-bit_and, bit_not}
 use Rattle.gates.specs.ControlSets.{iff_same}

@@ -1,7 +1,7 @@
 -- Tables of entries: what an edit leaves of those that are counted.
-use Rattle.std.proofs.Common.{◌≡◌, ℕ, zero, suc, ◌+◌, ◌-◌, ◌<◌, ◌≤◌, List, [], ◌∷◌, ◌++◌, map, length, get_or, take, drop, set, sym, refl, ap, ◌∙◌, ap₂, arith}
+use Rattle.std.proofs.Common.{◌≡◌, ℕ, suc, ◌+◌, ◌-◌, ◌<◌, ◌≤◌, List, [], ◌∷◌, ◌++◌, map, length, get_or, take, drop, set, sym, ap, ◌∙◌, ap₂, arith}
 use Rattle.std.specs.List.{remove}
-use Rattle.std.proofs.lemmas.List.{length-take, length-map, length-set, get_or-map, get_or-take, map-set, map-append, take-map, drop-map, map_push, take_more_set}
+use Rattle.std.proofs.lemmas.List.{length-take, length-map, get_or-map, get_or-take, map-set, map-append, take-map, drop-map, map_push, take_more_set}
 use Rattle.stores.proofs.Shifts.{lowered, lowered_all}
 use Rattle.stores.proofs.Outcomes.{take_set_in}
 use Rattle.stores.proofs.PlainEdits.{front_removed}

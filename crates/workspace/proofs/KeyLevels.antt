@@ -1,17 +1,12 @@
 -- What the numbers of a key say of the occurrences whose keys begin with them.
-use Rattle.std.proofs.Common.{◌≡◌, ℕ, zero, suc, ◌+◌, ◌-◌, ◌*◌, ◌^◌, ◌<◌, ◌≤◌, Bool, true, false, cond, List, [], ◌∷◌, ◌++◌, map, length, get_or, take, drop, sym, refl, ap, ◌∙◌, subst, arith}
-use Rattle.std.specs.List.{AllByRecursion}
-use Rattle.std.proofs.ByRecursion.{All-get_or}
-use Rattle.std.proofs.lemmas.List.{append_assoc, append-nil, length-append, length-map, get_or_append_left, get_or-append-add, get_or_at, get_or-map, drop-append-le, drop_at}
+use Rattle.std.proofs.Common.{◌≡◌, ℕ, suc, ◌+◌, ◌-◌, ◌<◌, ◌≤◌, true, cond, List, [], ◌∷◌, ◌++◌, map, length, get_or, sym, refl, ap, ◌∙◌, arith}
+use Rattle.std.proofs.lemmas.List.{append_assoc, append-nil, length-append, get_or_append_left, get_or-append-add, get_or_at, get_or-map}
 use Rattle.gates.specs.Kinds.{KindMeaning}
-use Rattle.search.specs.Listing.{Whole}
-use Rattle.workspace.specs.Templates.{TemplateMeaning, MeetsRules, size}
-use Rattle.workspace.specs.Conditions.{EntryMeaning, Condition, no_entry, Sound}
-use Rattle.workspace.specs.Occurrences.{Occurrence, places, key_of, template_on, Rising, OccursAs, Occurs}
+use Rattle.workspace.specs.Conditions.{Condition}
+use Rattle.workspace.specs.Occurrences.{Occurrence, places, key_of, template_on}
 use Rattle.workspace.specs.Matching.{occurs_in_test}
 use Rattle.workspace.specs.Prefixes.{Begun}
 use Rattle.workspace.proofs.DecidingOccurrences.{decides_occurrences}
-use Rattle.workspace.proofs.Keying.{template_meets, key_long}
 
 module _ (k : KindMeaning) (c : Condition) where
   -- an occurrence whose key goes on with v behind the prefix

@@ -1,22 +1,21 @@
 -- What comes next in the keys of occurrences, number by number.
-use Rattle.std.proofs.Common.{◌≡◌, ℕ, zero, suc, ◌+◌, ◌-◌, ◌*◌, ◌^◌, ◌<◌, ◌≤◌, min, Bool, true, false, cond, not, ◌&&◌, ◌||◌, eqb, ltb, leb, ◌⊎◌, List, [], ◌∷◌, ◌++◌, map, length, get_or, take, drop, sym, refl, ap, ◌∙◌, subst, ap₂, inl, inr, arith}
-use Rattle.std.specs.List.{AllByRecursion}
+use Rattle.std.proofs.Common.{◌≡◌, ℕ, suc, ◌+◌, ◌-◌, ◌*◌, ◌^◌, ◌<◌, ◌≤◌, Bool, true, false, cond, ◌&&◌, ltb, leb, ◌⊎◌, List, ◌∷◌, ◌++◌, length, get_or, drop, sym, refl, ap, ◌∙◌, subst, inl, inr, arith}
 use Rattle.std.proofs.ByRecursion.{All-get_or}
-use Rattle.std.proofs.lemmas.List.{length-drop, length-map, get_or-drop}
+use Rattle.std.proofs.lemmas.List.{length-drop, get_or-drop}
 use Rattle.std.proofs.lemmas.Nat.{pow_below}
 use Rattle.std.proofs.lemmas.Bool.{cases_eq, lt-ltb, le-leb, and_from}
 use Rattle.gates.specs.Lines.{bit}
 use Rattle.gates.specs.Kinds.{KindMeaning}
 use Rattle.workspace.specs.Templates.{TemplateMeaning, MeetsRules, size}
 use Rattle.workspace.specs.TurnTests.{has_number_lem}
-use Rattle.workspace.specs.Conditions.{EntryMeaning, Condition, no_entry, Sound}
-use Rattle.workspace.specs.Occurrences.{Occurrence, places, key_of, template_on, Rising, OccursAs}
+use Rattle.workspace.specs.Conditions.{Condition, no_entry, Sound}
+use Rattle.workspace.specs.Occurrences.{Occurrence, places, key_of, template_on}
 use Rattle.workspace.specs.Matching.{occurs_in_test}
 use Rattle.workspace.specs.Prefixes.{Begun}
 use Rattle.workspace.specs.Starts.{IsSet}
 use Rattle.workspace.proofs.DecidingTurns.{decides_has}
 use Rattle.workspace.proofs.Keying.{template_meets, key_long}
-use Rattle.workspace.proofs.KeyLevels.{Next, next_of, begun_of, within_key, number_at, line_at, distance_at}
+use Rattle.workspace.proofs.KeyLevels.{Next, next_of, begun_of, number_at, line_at, distance_at}
 
 module _ (k : KindMeaning) (c : Condition) (prefix : List ℕ) (o : Occurrence) (b : Begun k c prefix o) where
   -- the number of the template

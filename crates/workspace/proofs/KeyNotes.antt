@@ -1,24 +1,22 @@
 -- Notes fit the occurrences whose keys begin with what they were made for, and what comes next is among what they leave.
-use Rattle.std.proofs.Common.{◌≡◌, ℕ, zero, suc, ◌+◌, ◌-◌, ◌*◌, ◌^◌, ◌<◌, ◌≤◌, min, Bool, true, false, cond, not, ◌&&◌, ◌||◌, eqb, ltb, leb, ◌⊎◌, List, [], ◌∷◌, ◌++◌, map, length, get_or, take, drop, sym, refl, ap, ◌∙◌, subst, ap₂, inl, inr, arith}
-use Rattle.std.specs.List.{AllByRecursion}
+use Rattle.std.proofs.Common.{◌≡◌, ℕ, zero, suc, ◌+◌, ◌-◌, ◌<◌, ◌≤◌, min, Bool, true, false, cond, not, ◌&&◌, ◌||◌, eqb, ltb, ◌⊎◌, List, [], ◌∷◌, ◌++◌, length, get_or, take, drop, sym, refl, ap, ◌∙◌, subst, inl, inr, arith}
 use Rattle.std.proofs.ByRecursion.{All-get_or}
-use Rattle.std.proofs.lemmas.List.{append_assoc, length-append, length_push, length-drop, length-map, length-take, get_or_at, get_or-drop, get_or-map, get_or-take, get_or-replicate, drop_all, drop-append-le}
-use Rattle.std.proofs.lemmas.Bool.{cases_eq, eq-eqb, ne_eqb, lt-ltb, and_from, or_left, or_right}
+use Rattle.std.proofs.lemmas.List.{append_assoc, length_push, length-drop, length-map, length-take, get_or_at, get_or-drop, get_or-map, get_or-take, get_or-replicate, drop_all, drop-append-le}
+use Rattle.std.proofs.lemmas.Bool.{cases_eq, eq-eqb, ne_eqb, and_from, or_right}
 use Rattle.gates.specs.declared.gate.Gate.{Gate}
 use Rattle.gates.specs.Lines.{bit}
 use Rattle.gates.specs.Kinds.{KindMeaning, KindLaws}
 use Rattle.gates.proofs.Masks.{bit_power, bit_not}
-use Rattle.gates.specs.Members.{bit_none}
 use Rattle.workspace.specs.declared.notes.Note.{Note}
 use Rattle.workspace.specs.declared.posed.Member.{Member}
 use Rattle.workspace.specs.declared.posed.Posed.{Posed}
-use Rattle.workspace.specs.Templates.{TemplateMeaning, MeetsRules, size}
+use Rattle.workspace.specs.Templates.{TemplateMeaning, size}
 use Rattle.workspace.specs.Turns.{Placed, at_position}
 use Rattle.workspace.specs.TurnTests.{has_number_lem}
-use Rattle.workspace.specs.Conditions.{EntryMeaning, Condition, no_entry, Sound}
-use Rattle.workspace.specs.Occurrences.{Occurrence, places, key_of, template_on, OccursAs}
+use Rattle.workspace.specs.Conditions.{Condition, Sound}
+use Rattle.workspace.specs.Occurrences.{Occurrence, places, key_of, template_on}
 use Rattle.workspace.specs.Matching.{frame_at, members_of, posed}
-use Rattle.workspace.specs.Notes.{NoteFits, can_stand, some_of, blank_member, gate_of_lem, possible, open_reach}
+use Rattle.workspace.specs.Notes.{NoteFits, can_stand, blank_member, gate_of_lem, possible, open_reach}
 use Rattle.workspace.specs.Prefixes.{Begun}
 use Rattle.workspace.specs.Starts.{IsSet, movable}
 use Rattle.workspace.proofs.Blocking.{next_eligible}
@@ -26,7 +24,7 @@ use Rattle.workspace.proofs.DecidingTurns.{decides_has}
 use Rattle.workspace.proofs.Frames.{distance, distance_near, distance_rises}
 use Rattle.workspace.proofs.Keying.{key_long}
 use Rattle.workspace.proofs.KeyLevels.{Next, within_key, number_at, line_at, distance_at}
-use Rattle.workspace.proofs.KeyNexts.{template_is, few_is, meets_rules_lem, line_is, place_inside, distance_is}
+use Rattle.workspace.proofs.KeyNexts.{few_is, meets_rules_lem, line_is, place_inside, distance_is}
 use Rattle.workspace.proofs.Roles.{pose, pose_long, no_placed, place_covered}
 use Rattle.workspace.proofs.Standing.{some_there, possible_of}
 

@@ -1,5 +1,5 @@
 -- The keys of occurrences fit the keys of a search.
-use Rattle.std.proofs.Common.{◌≡◌, ℕ, ◌+◌, ◌-◌, ◌*◌, ◌^◌, ◌<◌, ◌≤◌, Bool, true, false, cond, List, [], ◌∷◌, ◌++◌, map, length, get_or, sym, refl, ap, ◌∙◌, subst, arith}
+use Rattle.std.proofs.Common.{◌≡◌, ℕ, ◌+◌, ◌-◌, ◌<◌, ◌≤◌, Bool, true, false, cond, List, map, length, sym, refl, subst, arith}
 use Rattle.std.specs.List.{AllByRecursion}
 use Rattle.std.proofs.lemmas.Nat.{pow_below}
 use Rattle.std.proofs.ByRecursion.{All-get_or, All-append, All-map, All-weaker}
@@ -8,9 +8,9 @@ use Rattle.gates.specs.Kinds.{KindMeaning}
 use Rattle.stores.specs.Stores.{Bounded}
 use Rattle.search.specs.Keys.{key_size, number_limit}
 use Rattle.search.specs.Listing.{FitsKey}
-use Rattle.workspace.specs.Templates.{TemplateMeaning, MeetsRules, size}
+use Rattle.workspace.specs.Templates.{MeetsRules}
 use Rattle.workspace.specs.Conditions.{EntryMeaning, Condition, no_entry, Sound}
-use Rattle.workspace.specs.Occurrences.{Occurrence, places, key_of, template_on, OccursAs}
+use Rattle.workspace.specs.Occurrences.{Occurrence, key_of, template_on, OccursAs}
 use Rattle.workspace.specs.Matching.{occurs_in_test}
 use Rattle.workspace.proofs.DecidingOccurrences.{decides_occurrences}
 

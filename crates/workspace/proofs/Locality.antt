@@ -1,5 +1,5 @@
 -- An occurrence is decided by its template and by the gates of its frame: those from its first place on that it can reach.
-use Rattle.std.proofs.Common.{◌≡◌, ℕ, zero, suc, ◌+◌, ◌-◌, ◌*◌, ◌<◌, ◌≤◌, min, Bool, true, false, cond, ◌&&◌, ◌||◌, eqb, List, [], ◌∷◌, ◌++◌, map, length, get_or, take, drop, Some, None, Option, sym, refl, ap, ◌∙◌, subst, ap₂, arith}
+use Rattle.std.proofs.Common.{◌≡◌, ℕ, zero, suc, ◌+◌, ◌-◌, ◌*◌, ◌<◌, ◌≤◌, Bool, true, false, cond, ◌&&◌, eqb, List, [], ◌∷◌, ◌++◌, length, get_or, take, drop, sym, refl, ap, ◌∙◌, subst, ap₂, arith}
 use Rattle.std.specs.List.{AllByRecursion}
 use Rattle.std.proofs.lemmas.List.{get_or-take, get_or-drop, length-take, length-drop}
 use Rattle.std.proofs.lemmas.Bool.{ne_eqb, or_from}
@@ -7,10 +7,10 @@ use Rattle.gates.specs.declared.gate.Gate.{Gate}
 use Rattle.gates.specs.Controls.{gate}
 use Rattle.gates.specs.Kinds.{KindMeaning}
 use Rattle.workspace.specs.Templates.{TemplateMeaning, size}
-use Rattle.workspace.specs.Turns.{IsTurn, Added, Placed, placed, turned, turned_gates}
+use Rattle.workspace.specs.Turns.{IsTurn, placed, turned, turned_gates}
 use Rattle.workspace.specs.TurnTests.{has_number_lem}
 use Rattle.workspace.specs.Conditions.{EntryMeaning}
-use Rattle.workspace.specs.Occurrences.{Occurrence, places, template_on, at_places, beside, asks, gathered, additions, passes, moves_front, is_chosen, Rising, OccursAs}
+use Rattle.workspace.specs.Occurrences.{Occurrence, places, template_on, at_places, beside, asks, gathered, passes, moves_front, is_chosen, Rising, OccursAs}
 use Rattle.workspace.specs.Matching.{frame_at}
 
 -- the place is within reach of the first

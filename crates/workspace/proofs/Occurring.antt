@@ -1,22 +1,20 @@
 -- Replacing an occurrence keeps what the cascade does.
-use Rattle.std.proofs.Common.{◌≡◌, ℕ, zero, suc, ◌+◌, ◌-◌, ◌*◌, ◌<◌, ◌≤◌, Bool, true, false, cond, not, ◌&&◌, ◌||◌, eqb, ◌⊎◌, List, [], ◌∷◌, ◌++◌, map, length, get_or, take, drop, Some, None, Option, sym, refl, ap, ◌∙◌, subst, ap₂, inl, inr, arith}
+use Rattle.std.proofs.Common.{◌≡◌, ℕ, zero, suc, ◌+◌, ◌-◌, ◌<◌, ◌≤◌, Bool, true, false, cond, ◌&&◌, ◌||◌, eqb, ◌⊎◌, List, [], ◌∷◌, ◌++◌, map, length, get_or, drop, Some, None, Option, sym, refl, ap, ◌∙◌, subst, ap₂, inl, inr, arith}
 use Rattle.std.specs.List.{AllByRecursion}
 use mathlib.Core.Path.{fun_ext}
-use Rattle.std.proofs.lemmas.List.{get_or-drop, get_or_default, length-drop}
-use Rattle.std.proofs.ByRecursion.{All-weaker, All-append, All-take, All-drop}
+use Rattle.std.proofs.lemmas.List.{get_or-drop, length-drop}
+use Rattle.std.proofs.ByRecursion.{All-weaker}
 use Rattle.std.proofs.lemmas.Bool.{false≢true, cases_eq, eq-eqb, ne_eqb, or_from, or_parts, and_parts, eqb-false}
 use Rattle.gates.specs.declared.gate.Gate.{Gate}
 use Rattle.gates.specs.declared.gate.Sign.{Sign}
-use Rattle.gates.specs.Lines.{State, Outside}
+use Rattle.gates.specs.Lines.{Outside}
 use Rattle.gates.specs.Controls.{gate}
-use Rattle.gates.specs.Kinds.{KindMeaning, KindLaws, Formed}
-use Rattle.gates.specs.Cascades.{run, picked, Moves}
-use Rattle.workspace.specs.Templates.{TemplateMeaning, MeetsRules, size}
-use Rattle.workspace.specs.Turns.{Placed, placed, Turn, turned, Added, turned_gates, Fits}
+use Rattle.gates.specs.Kinds.{KindMeaning, KindLaws}
+use Rattle.gates.specs.Cascades.{picked, Moves}
+use Rattle.workspace.specs.Turns.{Placed, placed, turned, Added, Fits}
 use Rattle.workspace.specs.TurnTests.{has_number_lem}
-use Rattle.workspace.specs.TurnTheorem.{TurnLaws}
 use Rattle.workspace.specs.Conditions.{EntryMeaning}
-use Rattle.workspace.specs.Occurrences.{Occurrence, places, template_on, at_places, beside, Asked, asks, joined_to, gathered, additions, passes, moves_front, is_chosen, Rising, OccursAs, saved, after_replacing, Replaces, Replacing}
+use Rattle.workspace.specs.Occurrences.{Occurrence, places, template_on, at_places, beside, Asked, asks, joined_to, gathered, passes, moves_front, is_chosen, Rising, OccursAs, Replacing}
 use Rattle.workspace.specs.Occurrences.Asked.{nothing, control_on, refused}
 use Rattle.workspace.proofs.Replacing as replacing
 

@@ -1,16 +1,13 @@
 -- A key that occurs leads to a plan of its occurrence.
-use Rattle.std.proofs.Common.{◌≡◌, ℕ, ◌+◌, ◌<◌, ◌≤◌, Bool, true, false, cond, List, [], ◌∷◌, length, get_or, take, Some, None, Option, sym, refl, ap, ◌∙◌, subst, ap₂, arith}
-use Rattle.std.specs.List.{AllByRecursion}
-use Rattle.gates.specs.declared.gate.Gate.{Gate}
+use Rattle.std.proofs.Common.{◌≡◌, ℕ, ◌≤◌, Bool, cond, List, length, get_or, Some, None, Option, sym, ap, ◌∙◌, subst, ap₂, arith}
 use Rattle.gates.specs.Kinds.{KindMeaning}
 use Rattle.workspace.specs.declared.named.Named.{Named}
 use Rattle.workspace.specs.declared.posed.Posed.{Posed}
-use Rattle.workspace.specs.declared.plan.Plan.{Plan}
 use Rattle.workspace.specs.Templates.{TemplateMeaning, size}
-use Rattle.workspace.specs.Turns.{Placed, Added, turned_template}
+use Rattle.workspace.specs.Turns.{Placed, turned_template}
 use Rattle.workspace.specs.Conditions.{Condition, Sound, no_entry}
 use Rattle.workspace.specs.Extensions.{posed_of, turned_by}
-use Rattle.workspace.specs.Matching.{OccursIn, members_of}
+use Rattle.workspace.specs.Matching.{OccursIn}
 use Rattle.workspace.specs.Naming.{occurrence_of, named_of, readable, spelled}
 use Rattle.workspace.specs.Occurrences.{Occurrence, OccursAs, key_of, template_on, additions}
 use Rattle.workspace.specs.Plans.{Planned}

@@ -1,16 +1,12 @@
 -- The key of an occurrence can be read, and it is read as that occurrence.
-use Rattle.std.proofs.Common.{◌≡◌, ℕ, suc, ◌+◌, ◌-◌, ◌<◌, ◌≤◌, Bool, true, false, cond, ◌&&◌, eqb, ltb, leb, List, [], ◌∷◌, ◌++◌, map, length, get_or, take, drop, Some, None, Option, sym, refl, ap, ◌∙◌, subst, arith}
-use Rattle.std.specs.List.{AllByRecursion}
-use Rattle.std.proofs.ByRecursion.{All-weaker}
+use Rattle.std.proofs.Common.{◌≡◌, ◌+◌, ◌-◌, ◌<◌, Bool, true, false, cond, ltb, leb, map, length, Some, Option, refl, ap, ◌∙◌, arith}
 use Rattle.std.proofs.lemmas.List.{take_at}
 use Rattle.std.proofs.lemmas.Bool.{and_from, eq-eqb, le-leb, lt-ltb}
 use Rattle.gates.specs.Kinds.{KindMeaning}
-use Rattle.workspace.specs.Templates.{MeetsRules, size}
 use Rattle.workspace.specs.TemplateTests.{all_pass}
 use Rattle.workspace.specs.Conditions.{Condition, Sound}
 use Rattle.workspace.specs.Naming.{readable, spelled}
 use Rattle.workspace.specs.Occurrences.{Occurrence, OccursAs, places, key_of, template_on}
-use Rattle.workspace.specs.OccurrenceTests.{named_by}
 use Rattle.workspace.proofs.DecidingOccurrences.{named_back, all_passes}
 use Rattle.workspace.proofs.Keying.{key_long, template_meets}
 

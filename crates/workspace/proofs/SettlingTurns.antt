@@ -1,10 +1,10 @@
 -- One turn of settling, and its two ends.
-use Rattle.std.proofs.Common.{◌≡◌, ℕ, suc, ◌+◌, ◌-◌, ◌^◌, ◌<◌, ◌≤◌, min, List, [], length, Some, None, Option, sym, refl, ap, ◌∙◌, subst, arith}
+use Rattle.std.proofs.Common.{◌≡◌, ℕ, suc, ◌+◌, ◌-◌, ◌≤◌, min, List, length, Some, subst, arith}
 use Rattle.gates.specs.Kinds.{KindMeaning, KindLaws}
 use Rattle.search.specs.Listing.{Chosen, Lowest, StartsFrom}
 use Rattle.search.specs.Policy.{PolicyMeaning}
 use Rattle.workspace.specs.declared.replacement.Replacement.{Replacement}
-use Rattle.workspace.specs.Conditions.{Condition, Sound}
+use Rattle.workspace.specs.Conditions.{Condition}
 use Rattle.workspace.specs.Matching.{OccursIn, shown_of}
 use Rattle.workspace.specs.Sweeps.{Replaced, Sweeps, Shortened}
 use Rattle.workspace.proofs.Sweeping.{shortened_more, nothing_below, sweeps_more}

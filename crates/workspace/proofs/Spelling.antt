@@ -9,7 +9,7 @@ use Rattle.gates.specs.Kinds.{KindMeaning}
 use Rattle.workspace.specs.Templates.{MeetsRules}
 use Rattle.workspace.specs.TemplateTests.{all_pass}
 use Rattle.workspace.specs.Conditions.{EntryMeaning, no_entry}
-use Rattle.workspace.specs.Occurrences.{Occurrence, places, key_of, template_on, OccursAs}
+use Rattle.workspace.specs.Occurrences.{Occurrence, key_of, template_on, OccursAs}
 use Rattle.workspace.specs.OccurrenceTests.{same_list, rules_test, named_by, named_test, occurs_test}
 use Rattle.workspace.specs.Naming.{spelled, readable}
 use Rattle.workspace.proofs.DecidingOccurrences.{same_self, all_passes, decides_occurrences}

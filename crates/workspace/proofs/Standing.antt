@@ -1,11 +1,11 @@
 -- Whether the images of a template's gates can stand somewhere, by sets of distances.
-use Rattle.std.proofs.Common.{◌≡◌, ℕ, zero, suc, ◌+◌, ◌^◌, ◌<◌, ◌≤◌, Bool, true, false, not, ◌&&◌, ◌||◌, eqb, ltb, ◌⊎◌, List, [], ◌∷◌, ◌++◌, length, get_or, drop, sym, refl, ap, ◌∙◌, ap₂, inl, inr, arith}
+use Rattle.std.proofs.Common.{◌≡◌, ℕ, ◌+◌, ◌^◌, ◌<◌, ◌≤◌, Bool, true, false, not, ◌&&◌, ◌||◌, List, length, get_or, drop, sym, refl, ap, ◌∙◌, ap₂, arith}
 use Rattle.std.proofs.lemmas.List.{at_drop_more, at_drop_all}
-use Rattle.std.proofs.lemmas.Bool.{eq-eqb, ne_eqb, false≢true}
+use Rattle.std.proofs.lemmas.Bool.{eq-eqb, ne_eqb}
 use Rattle.gates.specs.declared.gate.Gate.{Gate}
 use Rattle.gates.specs.Lines.{bit, every_below}
 use Rattle.gates.specs.Kinds.{KindMeaning}
-use Rattle.gates.specs.Members.{bit_none, set_ext, every_of, every_at, every_same}
+use Rattle.gates.specs.Members.{bit_none, set_ext, every_of, every_at}
 use Rattle.workspace.specs.declared.notes.Note.{Note}
 use Rattle.workspace.specs.Notes.{can_stand, some_of, gate_of_lem, possible}
 use Rattle.workspace.specs.Starts.{IsSet}

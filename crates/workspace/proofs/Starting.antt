@@ -4,7 +4,7 @@ use mathlib.Core.Bool.{beq}
 use lib.Bits.{bit_and}
 use Rattle.std.proofs.lemmas.Bool.{cases_lt, lt-ltb, le-ltb, and_left, or_right}
 use Rattle.gates.specs.declared.gate.Gate.{Gate}
-use Rattle.gates.specs.Lines.{bit, every_below}
+use Rattle.gates.specs.Lines.{bit}
 use Rattle.gates.specs.Kinds.{KindMeaning}
 use Rattle.gates.specs.Members.{every_of, every_at}
 use Rattle.gates.proofs.Masks.{bit-bit_and}

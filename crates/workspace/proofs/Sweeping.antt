@@ -1,22 +1,17 @@
 -- What a replacement keeps, where nothing can occur after it, and rows of sweeps.
-use Rattle.std.proofs.Common.{◌≡◌, ℕ, zero, suc, ◌+◌, ◌-◌, ◌<◌, ◌≤◌, min, ◌⊎◌, List, [], ◌∷◌, ◌++◌, map, length, get_or, take, drop, set, Some, None, Option, sym, refl, ap, ◌∙◌, subst, ap₂, inl, inr, arith}
-use Rattle.std.specs.List.{AllByRecursion}
+use Rattle.std.proofs.Common.{◌≡◌, ℕ, zero, suc, ◌+◌, ◌-◌, ◌<◌, ◌≤◌, min, ◌⊎◌, List, ◌∷◌, ◌++◌, map, length, get_or, take, drop, set, Some, sym, refl, ap, ◌∙◌, subst, inl, inr, arith}
 use Rattle.std.proofs.ByRecursion.{All-set, All-get_or}
 use Rattle.std.proofs.lemmas.List.{map-set, get_or-map, set-get_or, length-set, length-map, length-take-le, drop-take, take-append-le, take-take}
 use Rattle.std.proofs.lemmas.Bool.{cases_lt}
 use Rattle.gates.specs.declared.gate.Gate.{Gate}
-use Rattle.gates.specs.Lines.{State}
 use Rattle.gates.specs.Kinds.{KindMeaning, KindLaws}
-use Rattle.gates.specs.Cascades.{run}
-use Rattle.stores.specs.Stores.{with_gates}
-use Rattle.search.specs.Keys.{ShownIn}
-use Rattle.search.specs.Policy.{PolicyMeaning, chosen}
+use Rattle.search.specs.Policy.{PolicyMeaning}
 use Rattle.search.specs.Listing.{Lowest, StartsFrom}
 use Rattle.workspace.specs.declared.replacement.Replacement.{Replacement}
 use Rattle.workspace.specs.Templates.{TemplateMeaning, MeetsRules}
-use Rattle.workspace.specs.Conditions.{Condition, EntryMeaning, Sound, condition, counted_once, no_entry}
-use Rattle.workspace.specs.Occurrences.{Occurrence, Occurs, OccursAs, Replaces, key_of, template_on, after_replacing, saved}
-use Rattle.workspace.specs.Matching.{OccursIn, shown_of, frame_at}
+use Rattle.workspace.specs.Conditions.{Condition, EntryMeaning, Sound, counted_once, no_entry}
+use Rattle.workspace.specs.Occurrences.{Occurrence, OccursAs, key_of, template_on, after_replacing, saved}
+use Rattle.workspace.specs.Matching.{OccursIn, frame_at}
 use Rattle.workspace.specs.Sweeps.{Replaced, Swept, Shortened, Sweeps, after_occurrence, templates_on}
 use Rattle.workspace.proofs.Occurring.{replacing_laws}
 use Rattle.workspace.proofs.Locality.{same_frame}

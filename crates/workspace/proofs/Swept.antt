@@ -1,16 +1,16 @@
 -- What a search and the replacement of what it found come to.
-use Rattle.std.proofs.Common.{◌≡◌, ℕ, suc, ◌+◌, ◌-◌, ◌<◌, ◌≤◌, min, List, [], length, Some, None, Option, sym, refl, ap, ◌∙◌, subst, arith}
+use Rattle.std.proofs.Common.{◌≡◌, ℕ, ◌≤◌, List, [], length, Some, None, Option, sym, refl, ap, ◌∙◌, subst, arith}
 use Rattle.gates.specs.Kinds.{KindMeaning, KindLaws}
 use Rattle.stores.specs.Stores.{Bounded}
 use Rattle.search.specs.Keys.{ShownIn}
 use Rattle.search.specs.Listing.{Chosen, StartsFrom}
-use Rattle.search.specs.Policy.{PolicyMeaning, chosen, scan, opening}
+use Rattle.search.specs.Policy.{PolicyMeaning, scan, opening}
 use Rattle.workspace.specs.declared.entry.Entry.{Entry}
 use Rattle.workspace.specs.declared.replacement.Replacement.{Replacement}
 use Rattle.workspace.specs.Conditions.{Condition, Sound}
 use Rattle.workspace.specs.Matching.{OccursIn, Searchable, shown_of}
 use Rattle.workspace.specs.Promises.{SweepPromise, KeptAfter}
-use Rattle.workspace.specs.Sweeps.{Replaced, Done, Swept, Shortened, NothingOccurs}
+use Rattle.workspace.specs.Sweeps.{Replaced, Done, NothingOccurs}
 use Rattle.workspace.proofs.DecidingOccurrences.{decides_occurrences}
 use Rattle.workspace.specs.Shelves.{entries_of}
 use Rattle.workspace.proofs.Entries.{entries_long}

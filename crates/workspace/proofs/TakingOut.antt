@@ -1,7 +1,7 @@
 -- Gates taken out of a store, and inverses of gates put in.
-use Rattle.std.proofs.Common.{◌≡◌, ℕ, zero, suc, ◌+◌, ◌-◌, ◌<◌, ◌≤◌, min, Bool, true, false, cond, not, ltb, leb, List, [], ◌∷◌, ◌++◌, map, reverse, length, get_or, take, drop, Ok, Err, sym, refl, ap, ◌∙◌, subst, ap₂, arith}
+use Rattle.std.proofs.Common.{◌≡◌, ℕ, suc, ◌+◌, ◌<◌, ◌≤◌, true, false, ltb, List, [], ◌∷◌, ◌++◌, map, reverse, length, take, drop, Ok, sym, refl, ap, ◌∙◌, ap₂, arith}
 use Rattle.std.specs.List.{insert, remove}
-use Rattle.std.proofs.lemmas.List.{append-nil, append_assoc, take_all, drop_all, take_at, drop_at, length-append, length-take-le, length-drop, length-map, length-reverse, reverse-append, map-append}
+use Rattle.std.proofs.lemmas.List.{append-nil, take_all, drop_all, take_at, drop_at, length-append, length-take-le, length-drop, length-map, length-reverse, reverse-append}
 use Rattle.std.proofs.lemmas.Bool.{ltb-false, lt-ltb, le-leb}
 use Rattle.gates.specs.declared.gate.Gate.{Gate}
 use Rattle.gates.specs.Kinds.{KindMeaning, KindLaws, Formed}
@@ -9,7 +9,7 @@ use Rattle.gates.specs.Cascades.{backward}
 use Rattle.stores.specs.declared.refusal.StoreRefusal.TheVariants.{NoSuchPlace}
 use Rattle.stores.specs.Stores.{StoreMeaning, with_gates, after, provided, at, remove_outcome, insert_outcome}
 use Rattle.stores.proofs.Outcomes.{provided_true}
-use Rattle.workspace.specs.Edits.{without, with_inverses}
+use Rattle.workspace.specs.Edits.{with_inverses}
 
 -- nothing is removed behind the end
 removed_past : {X : Type 0} (xs : List X) (i : ℕ) → length xs ≤ i → remove xs i ≡ xs

@@ -1,5 +1,4 @@
 -- The condition that a workspace in memory is in.
-use Rattle.std.specs.Prelude.{take}
 use Rattle.stores.specs.Stores.{StoreMeaning}
 use Rattle.workspace.specs.declared.holdings.Holdings.{Holdings}
 use Rattle.workspace.specs.Conditions.{Condition, condition}

@@ -1,6 +1,6 @@
 -- What the search for occurrences looks at: the keys that occur in a condition, what a policy is shown of one, the frame of gates from a place on,
 -- and a template posed on its own lines.
-use Rattle.std.specs.Prelude.{◌≡◌, ℕ, ◌-◌, ◌*◌, Bool, List, map, take, drop, Decides, slice_index, slice_index_or}
+use Rattle.std.specs.Prelude.{ℕ, ◌-◌, ◌*◌, Bool, List, map, take, drop, Decides, slice_index, slice_index_or}
 use Rattle.gates.specs.declared.gate.Gate.{Gate}
 use Rattle.gates.specs.Kinds.{KindMeaning}
 use Rattle.gates.specs.Cascades.{rotated, flipped_or}

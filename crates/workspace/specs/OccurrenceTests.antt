@@ -1,5 +1,5 @@
 -- The test of an occurrence, by its key.
-use Rattle.std.specs.Prelude.{◌≡◌, ℕ, suc, ◌+◌, ◌*◌, Bool, true, false, ◌&&◌, ltb, leb, List, [], ◌∷◌, map, length, take, drop, Some, None, Decides, Option, ◌==◌, nat_eq, nat_le, nat_lt, slice_index_or}
+use Rattle.std.specs.Prelude.{ℕ, suc, ◌+◌, ◌*◌, Bool, true, false, ◌&&◌, ltb, leb, List, [], ◌∷◌, map, length, take, drop, Some, None, Decides, Option, ◌==◌, nat_eq, nat_le, nat_lt, slice_index_or}
 use Rattle.gates.specs.declared.gate.Gate.{Gate}
 use Rattle.gates.specs.Kinds.{KindMeaning}
 use Rattle.workspace.specs.Templates.{size}

@@ -1,5 +1,5 @@
 -- What the calls that change a workspace promise, in one relation.
-use Rattle.std.specs.Prelude.{◌≡◌, ℕ, Bool, List, [], is_ok, Ok, Err, Option, Result, nat_le}
+use Rattle.std.specs.Prelude.{◌≡◌, ℕ, List, [], is_ok, Ok, Err, Option, Result, nat_le}
 use Rattle.gates.specs.declared.gate.Gate.{Gate}
 use Rattle.gates.specs.Kinds.{KindMeaning}
 use Rattle.stores.specs.declared.refusal.StoreRefusal.{StoreRefusal}

@@ -1,5 +1,5 @@
 -- Sweeps and settling: which occurrence is replaced, what that leaves, and what a row of sweeps comes to.
-use Rattle.std.specs.Prelude.{◌≡◌, ℕ, zero, suc, ◌+◌, ◌≤◌, List, [], ◌∷◌, map, length, Some, None, Ok, Err, Option, Result, slice_index_or, slice_set}
+use Rattle.std.specs.Prelude.{◌≡◌, ℕ, zero, suc, ◌+◌, ◌≤◌, List, [], map, length, Some, None, Ok, Err, Option, Result, slice_index_or, slice_set}
 use Rattle.gates.specs.Lines.{State}
 use Rattle.gates.specs.Kinds.{KindMeaning}
 use Rattle.gates.specs.Cascades.{run}

@@ -1,5 +1,5 @@
 -- Turns of a template onto the lines of a cascade, and controls that are added to it by groups.
-use Rattle.std.specs.Prelude.{◌≡◌, ℕ, zero, suc, ◌^◌, ◌<◌, Bool, true, false, cond, List, [], ◌∷◌, map, reverse, ◌≢◌}
+use Rattle.std.specs.Prelude.{ℕ, zero, suc, ◌^◌, ◌<◌, Bool, true, false, cond, List, [], ◌∷◌, map, reverse, ◌≢◌}
 use Rattle.std.specs.List.{AllByRecursion}
 use Rattle.gates.specs.declared.gate.Gate.{Gate}
 use Rattle.gates.specs.declared.gate.Sign.{Sign}

@@ -1,6 +1,6 @@
-use Rattle.std.proofs.Common.{◌≡◌, ◌+◌, drop, sym, ap, ◌∙◌}
+use Rattle.std.proofs.Common.{◌+◌, drop, sym, ap, ◌∙◌}
 use Rattle.std.proofs.lemmas.List.{at_drop_more, at_drop_all}
-use Rattle.gates.specs.Lines.{State, bit}
+use Rattle.gates.specs.Lines.{bit}
 use Rattle.gates.specs.Controls.{gate}
 use Rattle.gates.specs.Cascades.{run}
 use Rattle.gates.proofs.cascade.run_cascade.Goals as goal

@@ -1,4 +1,4 @@
-use Rattle.std.proofs.Common.{◌≡◌, ℕ, ltb, sym, ap, ◌∙◌, arith}
+use Rattle.std.proofs.Common.{◌≡◌, ℕ, ltb, ap, ◌∙◌, arith}
 use Rattle.search.proofs.NumberSets.{below_none, below_some, below_all}
 use Rattle.search.proofs.candidates.numbers_below.Goals as goal
 

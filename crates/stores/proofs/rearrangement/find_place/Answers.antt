@@ -1,5 +1,4 @@
-use Rattle.std.proofs.Common.{◌≡◌, ℕ, suc, ◌+◌, drop, sym, ap, ◌∙◌, arith}
-use Rattle.stores.specs.Mounts.{place_of}
+use Rattle.std.proofs.Common.{arith}
 use Rattle.stores.proofs.Rearranging.{place_here, place_further, place_none}
 use Rattle.stores.proofs.rearrangement.find_place.Goals as goal
 

@@ -1,4 +1,4 @@
-use Rattle.std.proofs.Common.{◌≡◌, ◌+◌, Bool, not, ◌&&◌, eqb, ltb, leb, length, get_or, drop, sym, ap, ◌∙◌}
+use Rattle.std.proofs.Common.{◌+◌, Bool, not, ◌&&◌, eqb, ltb, length, get_or, drop, sym, ap, ◌∙◌}
 use Rattle.std.proofs.lemmas.Bool.{eq-eqb, le-leb, lt-ltb, le-ltb, and_from, and_left, and_right, not_from_true, not_from_false}
 use Rattle.gates.specs.Lines.{width, bit}
 use Rattle.stores.specs.Mounts.{completes}

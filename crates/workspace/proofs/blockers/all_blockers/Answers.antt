@@ -1,4 +1,4 @@
-use Rattle.std.proofs.Common.{◌≡◌, ℕ, ◌<◌, length, refl, ◌∙◌, arith, length-set}
+use Rattle.std.proofs.Common.{◌<◌, length, refl, ◌∙◌, arith, length-set}
 use Rattle.workspace.specs.Starts.{IsSet, blocks}
 use Rattle.workspace.proofs.DistanceSets.{filled_more}
 use Rattle.workspace.proofs.blockers.all_blockers.Goals as goal

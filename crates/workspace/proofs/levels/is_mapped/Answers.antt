@@ -1,4 +1,4 @@
-use Rattle.std.proofs.Common.{◌≡◌, ◌<◌, ◌≤◌, length, sym, refl, ◌∙◌, arith}
+use Rattle.std.proofs.Common.{◌<◌, ◌≤◌, length, sym, refl, ◌∙◌, arith}
 use Rattle.search.specs.Keys.{keyed}
 use Rattle.workspace.proofs.Standing.{has_here, has_later, has_none}
 use Rattle.workspace.proofs.levels.is_mapped.Goals as goal

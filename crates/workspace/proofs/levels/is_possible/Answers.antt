@@ -1,4 +1,4 @@
-use Rattle.std.proofs.Common.{◌≡◌, ℕ, ◌<◌, ◌≤◌, min, sym, ap, ◌∙◌, arith}
+use Rattle.std.proofs.Common.{◌≡◌, ℕ, ◌<◌, min, sym, ap, ◌∙◌, arith}
 use Rattle.workspace.specs.Matching.{frame_at}
 use Rattle.workspace.specs.Notes.{can_stand, gate_of_lem, possible}
 use Rattle.workspace.proofs.Standing.{none_of, one_of, possible_none, possible_more, possible_fails}

@@ -1,4 +1,4 @@
-use Rattle.std.proofs.Common.{◌≡◌, ℕ, ◌<◌, length, refl, ◌∙◌, arith, length-set}
+use Rattle.std.proofs.Common.{◌<◌, length, refl, ◌∙◌, arith, length-set}
 use Rattle.workspace.specs.Starts.{IsSet, has_role_at}
 use Rattle.workspace.proofs.DistanceSets.{filled_more}
 use Rattle.workspace.proofs.role.columns.Goals as goal

@@ -1,4 +1,4 @@
-use Rattle.std.proofs.Common.{ℕ, Bool, get_or, ap, ◌∙◌, arith}
+use Rattle.std.proofs.Common.{ℕ, get_or, ap, ◌∙◌, arith}
 use mathlib.Core.Bool.{beq}
 use Rattle.gates.specs.Lines.{bit}
 use Rattle.workspace.proofs.Starting.{roles_agree}

@@ -1,12 +1,10 @@
-use Rattle.std.proofs.Common.{◌≡◌, ℕ, ◌+◌, ◌-◌, ◌<◌, ◌≤◌, List, [], ◌∷◌, ◌++◌, map, length, get_or, take, drop, sym, refl, ap, ◌∙◌, subst, arith}
-use Rattle.std.specs.List.{AllByRecursion}
-use Rattle.std.specs.List.{insert}
+use Rattle.std.proofs.Common.{◌+◌, ◌<◌, List, map, length, get_or, take, sym, ap, ◌∙◌, arith}
 use Rattle.std.proofs.lemmas.List.{take-append-drop, take_all, map_more, length-map, length-take-le}
 use Rattle.std.proofs.ByRecursion.{All-get_or}
 use Rattle.gates.specs.declared.gate.Gate.{Gate}
 use Rattle.gates.specs.Controls.{gate}
 use Rattle.gates.specs.Kinds.{Formed}
-use Rattle.stores.specs.Stores.{StoreMeaning, with_gates, after, insert_outcome}
+use Rattle.stores.specs.Stores.{with_gates, after, insert_outcome}
 use Rattle.workspace.specs.declared.posed.Member.{Member}
 use Rattle.workspace.specs.Edits.{with_inverses}
 use Rattle.workspace.proofs.TakingOut.{put_one}

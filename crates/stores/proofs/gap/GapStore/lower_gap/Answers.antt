@@ -1,4 +1,4 @@
-use Rattle.std.proofs.Common.{◌≡◌, ◌+◌, ◌-◌, ◌<◌, ◌≤◌, length, refl, arith}
+use Rattle.std.proofs.Common.{arith}
 use Rattle.gates.specs.Controls.{gate}
 use Rattle.stores.proofs.GapEdits.{moved_then, moved_none, moved_down}
 use Rattle.stores.proofs.gap.GapStore.lower_gap.Goals as goal

@@ -1,9 +1,6 @@
-use Rattle.std.proofs.Common.{◌≡◌, ℕ, suc, ◌+◌, ◌-◌, ◌<◌, ◌≤◌, List, ◌++◌, length, get_or, set, Ok, sym, refl, ap, ◌∙◌, ap₂, arith}
-use Rattle.std.specs.List.{insert, remove}
+use Rattle.std.proofs.Common.{ℕ, ◌<◌, length, set, sym, ap, ◌∙◌, ap₂, arith}
 use Rattle.std.proofs.lemmas.List.{length-set}
-use Rattle.gates.specs.declared.gate.Gate.{Gate}
-use Rattle.gates.specs.Controls.{gate}
-use Rattle.stores.specs.Stores.{StoreMeaning, answer, after}
+use Rattle.stores.specs.Stores.{answer, after}
 use Rattle.stores.specs.Memory.{gap, in_memory, around_gap}
 use Rattle.stores.proofs.Outcomes.{overwrite_ok}
 use Rattle.stores.proofs.GapEdits.{around_long, write_at}

@@ -1,9 +1,7 @@
-use Rattle.std.proofs.Common.{◌≡◌, ℕ, suc, ◌+◌, ◌-◌, ◌<◌, ◌≤◌, List, ◌++◌, length, get_or, take, drop, set, Ok, sym, refl, ap, ◌∙◌, ap₂, arith}
-use Rattle.std.specs.List.{insert, remove}
-use Rattle.std.proofs.lemmas.List.{length-take, length-set, get_or-take, drop-set-lt}
+use Rattle.std.proofs.Common.{ℕ, ◌<◌, List, length, take, sym, ap, ◌∙◌, ap₂, arith}
+use Rattle.std.proofs.lemmas.List.{length-take, length-set, drop-set-lt}
 use Rattle.gates.specs.declared.gate.Gate.{Gate}
-use Rattle.gates.specs.Controls.{gate}
-use Rattle.stores.specs.Stores.{StoreMeaning, answer, after}
+use Rattle.stores.specs.Stores.{answer, after}
 use Rattle.stores.specs.Memory.{plain, in_memory}
 use Rattle.stores.proofs.Outcomes.{overwrite_ok, take_set_in}
 use Rattle.stores.proofs.plain.PlainStoreStore.overwrite.Goals as goal

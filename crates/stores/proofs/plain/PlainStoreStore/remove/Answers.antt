@@ -1,9 +1,9 @@
 use Rattle.std.proofs.Common.{◌≡◌, ℕ, suc, ◌+◌, ◌-◌, ◌<◌, ◌≤◌, List, ◌++◌, length, get_or, take, drop, set, Ok, sym, refl, ap, ◌∙◌, ap₂, arith}
-use Rattle.std.specs.List.{insert, remove}
-use Rattle.std.proofs.lemmas.List.{length-take, length-set, get_or-take, drop-set-lt}
+use Rattle.std.specs.List.{remove}
+use Rattle.std.proofs.lemmas.List.{length-take, length-set, get_or-take}
 use Rattle.gates.specs.declared.gate.Gate.{Gate}
 use Rattle.gates.specs.Controls.{gate}
-use Rattle.stores.specs.Stores.{StoreMeaning, answer, after}
+use Rattle.stores.specs.Stores.{answer, after}
 use Rattle.stores.specs.Memory.{plain, in_memory}
 use Rattle.stores.proofs.Outcomes.{remove_ok}
 use Rattle.stores.proofs.Shifts.{lowered, lowered_none, lowered_more, lowered_all}

@@ -1,12 +1,9 @@
-use Rattle.std.proofs.Common.{◌≡◌, ℕ, ◌+◌, ◌-◌, ◌<◌, ◌≤◌, Bool, ltb, List, map, length, Ok, Err, sym, refl, ap, ◌∙◌, subst, ap₂, arith}
+use Rattle.std.proofs.Common.{◌≡◌, ℕ, ◌≤◌, ltb, length, sym, ap, ◌∙◌, subst, arith}
 use lib.ListN.{length-map}
-use Rattle.std.proofs.lemmas.List.{get_or-map}
-use Rattle.gates.specs.declared.gate.Gate.{Gate}
-use Rattle.gates.specs.Controls.{gate}
 use Rattle.gates.specs.Kinds.{Formed}
-use Rattle.stores.specs.Stores.{StoreMeaning, Outcome, answer, after, with_gates, insert_outcome}
+use Rattle.stores.specs.Stores.{answer, after, with_gates}
 use Rattle.stores.specs.Mounts.{shown_gate, renamed_view}
-use Rattle.stores.proofs.Rearranging.{written_back, inserted_map, removed_map, set_map}
+use Rattle.stores.proofs.Rearranging.{written_back, inserted_map}
 use Rattle.stores.proofs.Outcomes.{insert_past, insert_unformed, insert_through}
 use Rattle.stores.proofs.renamed.RenamedStore.insert.Goals as goal
 

@@ -1,12 +1,10 @@
-use Rattle.std.proofs.Common.{◌≡◌, ℕ, ◌+◌, ◌-◌, ◌<◌, ◌≤◌, Bool, ltb, List, length, Ok, Err, sym, refl, ap, ◌∙◌, subst, ap₂, arith}
-use Rattle.gates.specs.declared.gate.Gate.{Gate}
+use Rattle.std.proofs.Common.{◌≡◌, ℕ, ◌-◌, ◌<◌, length, sym, ap, ◌∙◌, subst, arith}
 use Rattle.gates.specs.Controls.{gate}
 use Rattle.gates.specs.Kinds.{Formed}
-use Rattle.gates.specs.Cascades.{backward}
-use Rattle.stores.specs.Stores.{StoreMeaning, Outcome, overwrite_outcome, answer, after, with_gates}
+use Rattle.stores.specs.Stores.{overwrite_outcome, answer, after, with_gates}
 use Rattle.stores.specs.Mounts.{reversed}
 use Rattle.stores.specs.MountFacts.{backward_long}
-use Rattle.stores.proofs.Backward.{read_backward, set_backward, removed_backward, inserted_backward}
+use Rattle.stores.proofs.Backward.{set_backward}
 use Rattle.stores.proofs.Outcomes.{overwrite_past, overwrite_unformed, overwrite_through}
 use Rattle.stores.proofs.reversed.ReversedStore.overwrite.Goals as goal
 

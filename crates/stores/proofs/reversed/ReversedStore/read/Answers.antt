@@ -1,12 +1,8 @@
-use Rattle.std.proofs.Common.{◌≡◌, ℕ, ◌+◌, ◌-◌, ◌<◌, ◌≤◌, Bool, ltb, List, length, get_or, Ok, Err, sym, refl, ap, ◌∙◌, subst, ap₂, arith}
-use Rattle.gates.specs.declared.gate.Gate.{Gate}
+use Rattle.std.proofs.Common.{ℕ, ◌-◌, ◌<◌, length, get_or, Ok, sym, ap, ◌∙◌, arith}
 use Rattle.gates.specs.Controls.{gate}
-use Rattle.gates.specs.Kinds.{Formed}
-use Rattle.gates.specs.Cascades.{backward}
-use Rattle.stores.specs.Stores.{StoreMeaning, Outcome, answer, after, with_gates}
 use Rattle.stores.specs.Mounts.{reversed}
 use Rattle.stores.specs.MountFacts.{backward_long}
-use Rattle.stores.proofs.Backward.{read_backward, set_backward, removed_backward, inserted_backward}
+use Rattle.stores.proofs.Backward.{read_backward}
 use Rattle.stores.proofs.Outcomes.{read_past, read_ok, read_told}
 use Rattle.stores.proofs.reversed.ReversedStore.read.Goals as goal
 

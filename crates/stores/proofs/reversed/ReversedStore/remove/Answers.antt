@@ -1,12 +1,9 @@
-use Rattle.std.proofs.Common.{◌≡◌, ℕ, ◌+◌, ◌-◌, ◌<◌, ◌≤◌, Bool, ltb, List, length, Ok, Err, sym, refl, ap, ◌∙◌, subst, ap₂, arith}
-use Rattle.gates.specs.declared.gate.Gate.{Gate}
+use Rattle.std.proofs.Common.{◌≡◌, ℕ, ◌-◌, ◌<◌, length, Ok, sym, ap, ◌∙◌, arith}
 use Rattle.gates.specs.Controls.{gate}
-use Rattle.gates.specs.Kinds.{Formed}
-use Rattle.gates.specs.Cascades.{backward}
-use Rattle.stores.specs.Stores.{StoreMeaning, Outcome, remove_outcome, answer, after, with_gates}
+use Rattle.stores.specs.Stores.{remove_outcome, answer, after, with_gates}
 use Rattle.stores.specs.Mounts.{reversed}
 use Rattle.stores.specs.MountFacts.{backward_long}
-use Rattle.stores.proofs.Backward.{read_backward, set_backward, removed_backward, inserted_backward}
+use Rattle.stores.proofs.Backward.{read_backward, removed_backward}
 use Rattle.stores.proofs.Outcomes.{remove_past, remove_through}
 use Rattle.stores.proofs.reversed.ReversedStore.remove.Goals as goal
 

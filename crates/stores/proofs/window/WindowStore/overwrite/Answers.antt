@@ -1,12 +1,9 @@
-use Rattle.std.proofs.Common.{◌≡◌, ℕ, ◌+◌, ◌-◌, ◌^◌, ◌<◌, ◌≤◌, List, length, get_or, take, drop, set, Ok, Err, sym, refl, ap, ◌∙◌, subst, ap₂, arith}
-use Rattle.std.specs.List.{insert, remove}
-use Rattle.gates.specs.declared.gate.Gate.{Gate}
-use Rattle.gates.specs.Controls.{gate}
+use Rattle.std.proofs.Common.{ℕ, ◌+◌, ◌<◌, ◌≤◌, length, set, sym, ap, ◌∙◌, arith}
 use Rattle.gates.specs.Kinds.{Formed}
-use Rattle.stores.specs.Stores.{StoreMeaning, answer, after, with_gates, read_outcome, overwrite_outcome, insert_outcome, remove_outcome}
-use Rattle.stores.specs.Mounts.{window, windowed, start_in, size_in}
+use Rattle.stores.specs.Stores.{answer, after, with_gates, overwrite_outcome}
+use Rattle.stores.specs.Mounts.{window, start_in, size_in}
 use Rattle.std.proofs.lemmas.List.{length-set}
-use Rattle.stores.proofs.Windows.{rewindow, window_long, window_at, window_set, window_inserted, window_removed}
+use Rattle.stores.proofs.Windows.{rewindow, window_long, window_set}
 use Rattle.stores.proofs.Outcomes.{overwrite_through}
 use Rattle.stores.proofs.window.WindowStore.overwrite.Goals as goal
 

@@ -1,12 +1,8 @@
-use Rattle.std.proofs.Common.{◌≡◌, ℕ, ◌+◌, ◌-◌, ◌^◌, ◌<◌, ◌≤◌, List, length, get_or, take, drop, set, Ok, Err, sym, refl, ap, ◌∙◌, subst, ap₂, arith}
-use Rattle.std.specs.List.{insert, remove}
-use Rattle.gates.specs.declared.gate.Gate.{Gate}
+use Rattle.std.proofs.Common.{ℕ, ◌+◌, ◌<◌, ◌≤◌, length, Ok, sym, ap, ◌∙◌, arith}
 use Rattle.gates.specs.Controls.{gate}
-use Rattle.gates.specs.Kinds.{Formed}
-use Rattle.stores.specs.Stores.{StoreMeaning, answer, after, with_gates, read_outcome, overwrite_outcome, insert_outcome, remove_outcome}
-use Rattle.stores.specs.Mounts.{window, windowed, start_in, size_in}
-use Rattle.std.proofs.lemmas.List.{length-set}
-use Rattle.stores.proofs.Windows.{rewindow, window_long, window_at, window_set, window_inserted, window_removed}
+use Rattle.stores.specs.Stores.{read_outcome}
+use Rattle.stores.specs.Mounts.{windowed, start_in, size_in}
+use Rattle.stores.proofs.Windows.{window_long, window_at}
 use Rattle.stores.proofs.Outcomes.{read_ok}
 use Rattle.stores.proofs.window.WindowStore.read.Goals as goal
 

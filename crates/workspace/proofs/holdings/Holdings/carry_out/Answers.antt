@@ -1,15 +1,13 @@
-use Rattle.std.proofs.Common.{◌≡◌, ℕ, ◌+◌, ◌-◌, ◌*◌, ◌^◌, ◌<◌, ◌≤◌, min, List, map, length, get_or, take, drop, set, sym, refl, ap, ◌∙◌, ap₂, arith}
-use Rattle.std.proofs.lemmas.List.{length-map, length-take-le, length-take}
-use Rattle.gates.specs.declared.gate.Gate.{Gate}
-use Rattle.stores.specs.Stores.{StoreMeaning, with_gates}
+use Rattle.std.proofs.Common.{◌≡◌, ℕ, ◌+◌, ◌-◌, ◌^◌, ◌<◌, ◌≤◌, map, length, get_or, take, drop, set, sym, refl, ap, ◌∙◌, ap₂, arith}
+use Rattle.std.proofs.lemmas.List.{length-map, length-take-le}
+use Rattle.stores.specs.Stores.{with_gates}
 use Rattle.workspace.specs.declared.posed.Member.{Member}
 use Rattle.workspace.specs.Turns.{Placed, gates_of, turned_gates}
-use Rattle.workspace.specs.Conditions.{Condition, EntryMeaning, condition, counted_once, no_entry}
+use Rattle.workspace.specs.Conditions.{condition, counted_once, no_entry}
 use Rattle.workspace.specs.Holdings.{condition_of}
 use Rattle.workspace.specs.Matching.{members_of}
 use Rattle.workspace.specs.Naming.{occurrence_of}
-use Rattle.workspace.specs.Occurrences.{Occurrence, places, template_on, after_replacing}
-use Rattle.workspace.specs.Shelves.{entries_of}
+use Rattle.workspace.specs.Occurrences.{places, template_on, after_replacing}
 use Rattle.workspace.proofs.CarryingOut.{carried, members_from, as_many}
 use Rattle.workspace.proofs.Entries.{entries_long}
 use Rattle.workspace.proofs.holdings.Holdings.carry_out.Goals as goal

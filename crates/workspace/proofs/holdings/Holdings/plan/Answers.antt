@@ -1,11 +1,10 @@
-use Rattle.std.proofs.Common.{◌≡◌, ℕ, Bool, cond, List, get_or, Some, None, Option, sym, refl, ap, ◌∙◌, subst}
+use Rattle.std.proofs.Common.{◌≡◌, ℕ, cond, get_or, Some, None, ap, ◌∙◌}
 use Rattle.search.specs.Keys.{keyed}
-use Rattle.workspace.specs.Templates.{TemplateMeaning}
-use Rattle.workspace.specs.Conditions.{EntryMeaning, no_entry}
-use Rattle.workspace.specs.Extensions.{posed_of, turned_by}
+use Rattle.workspace.specs.Conditions.{no_entry}
+use Rattle.workspace.specs.Extensions.{turned_by}
 use Rattle.workspace.specs.Holdings.{condition_of}
-use Rattle.workspace.specs.Naming.{occurrence_of, named_of, readable, spelled}
-use Rattle.workspace.specs.Occurrences.{Occurrence, additions}
+use Rattle.workspace.specs.Naming.{occurrence_of, readable, spelled}
+use Rattle.workspace.specs.Occurrences.{additions}
 use Rattle.workspace.specs.Proposals.{template_of}
 use Rattle.workspace.proofs.PlannedKeys.{read_none, read_some, rules, rotates, extended_none, planned}
 use Rattle.workspace.proofs.holdings.Holdings.plan.Goals as goal

@@ -1,4 +1,4 @@
-use Rattle.std.proofs.Common.{◌≡◌, ℕ, suc, ◌+◌, ◌-◌, ◌<◌, min, not, ◌&&◌, ltb, length, get_or, drop, sym, ap, ◌∙◌, subst, arith}
+use Rattle.std.proofs.Common.{◌≡◌, ℕ, suc, ◌+◌, ◌-◌, ◌<◌, not, ◌&&◌, ltb, length, get_or, drop, ap, ◌∙◌, subst, arith}
 use Rattle.std.proofs.lemmas.Bool.{lt-ltb, and_from, not_from_false}
 use Rattle.gates.specs.Lines.{bit}
 use Rattle.search.specs.Keys.{keyed}
@@ -7,11 +7,10 @@ use Rattle.workspace.specs.TurnTests.{has_number_lem}
 use Rattle.workspace.specs.Conditions.{no_entry}
 use Rattle.workspace.specs.Holdings.{condition_of}
 use Rattle.workspace.specs.Matching.{frame_at}
-use Rattle.workspace.specs.Notes.{possible}
 use Rattle.workspace.specs.Proposals.{template_of}
 use Rattle.workspace.specs.Starts.{Started, movable}
 use Rattle.workspace.proofs.Frames.{distance}
-use Rattle.workspace.proofs.KeyLevels.{Next, next_of, number_at, distance_at}
+use Rattle.workspace.proofs.KeyLevels.{next_of, number_at}
 use Rattle.workspace.proofs.KeyNexts.{unlisted, template_is, meets_rules_lem, place_inside, next_number, pose_covers, line_below, line_new}
 use Rattle.workspace.proofs.KeyNotes.{last_first, last_later, line_possible, place_next}
 use Rattle.workspace.proofs.matching.HoldingsProblem.candidates.Goals as goal

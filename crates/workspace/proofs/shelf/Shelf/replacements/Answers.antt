@@ -1,7 +1,5 @@
-use Rattle.std.proofs.Common.{◌≡◌, ℕ, suc, ◌+◌, ◌-◌, ◌<◌, ◌≤◌, List, [], ◌∷◌, ◌++◌, length, get_or, set, sym, refl, ap, ◌∙◌, ap₂, arith}
-use Rattle.workspace.specs.declared.entry.Entry.{Entry}
-use Rattle.workspace.specs.Conditions.{EntryMeaning, counted_once, no_entry}
-use Rattle.workspace.specs.Shelves.{entry_of, entries_of}
+use Rattle.std.proofs.Common.{◌≤◌, length, sym, ap, arith}
+use Rattle.workspace.specs.Conditions.{EntryMeaning, no_entry}
 use Rattle.workspace.proofs.Entries.{blank_entry, entry_at}
 use Rattle.workspace.proofs.shelf.Shelf.replacements.Goals as goal
 

@@ -1,9 +1,8 @@
-use Rattle.std.proofs.Common.{◌≡◌, ℕ, ◌<◌, List, length, sym, refl, ap, ◌∙◌, subst, ap₂, arith}
+use Rattle.std.proofs.Common.{◌≡◌, ℕ, length, sym, refl, ap, ◌∙◌, subst}
 use Rattle.stores.specs.Stores.{StoreMeaning, insert_outcome}
 use Rattle.stores.specs.Stores as stores
-use Rattle.workspace.specs.Conditions.{Condition, EntryMeaning, Sound, condition, answer, after}
+use Rattle.workspace.specs.Conditions.{Sound, condition}
 use Rattle.workspace.specs.Shelves.{entries_of}
-use Rattle.workspace.specs.Proposals.{template_of, proposed}
 use Rattle.workspace.proofs.Calling.{append_answers, append_leaves, append_sound}
 use Rattle.workspace.proofs.workspace.Workspace.append.Goals as goal
 

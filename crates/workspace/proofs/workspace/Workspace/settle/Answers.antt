@@ -1,11 +1,11 @@
-use Rattle.std.proofs.Common.{◌≡◌, ℕ, ◌≤◌, min, true, leb, List, length, Some, None, sym, refl, ap, ◌∙◌, arith}
+use Rattle.std.proofs.Common.{min, Some, None, sym, refl, ap, ◌∙◌, arith}
 use Rattle.std.proofs.lemmas.Bool.{le-leb, lt-leb}
 use Rattle.search.specs.Keys.{keyed}
 use Rattle.search.specs.Listing.{Chosen}
 use Rattle.workspace.specs.Conditions.{Sound}
 use Rattle.workspace.specs.Holdings.{condition_of}
 use Rattle.workspace.specs.Matching.{OccursIn, shown_of}
-use Rattle.workspace.proofs.SettlingTurns.{Stands, stands_more}
+use Rattle.workspace.proofs.SettlingTurns.{stands_more}
 use Rattle.workspace.proofs.Sweeping.{unshortened}
 use Rattle.workspace.proofs.Swept.{searchable, few_entries, from_none, kept_after, none_occurs}
 use Rattle.workspace.proofs.workspace.Workspace.settle.Goals as goal

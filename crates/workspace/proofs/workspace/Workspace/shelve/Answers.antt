@@ -1,10 +1,8 @@
-use Rattle.std.proofs.Common.{◌≡◌, ℕ, ◌<◌, List, [], ◌∷◌, ◌++◌, length, sym, refl, ap, ◌∙◌, subst, ap₂, arith}
-use Rattle.stores.specs.Stores.{StoreMeaning, insert_outcome}
-use Rattle.stores.specs.Stores as stores
-use Rattle.workspace.specs.Conditions.{Condition, EntryMeaning, Sound, entry, condition, answer, after}
+use Rattle.std.proofs.Common.{◌<◌, List, [], ◌∷◌, ◌++◌, length, sym, refl, ap, ◌∙◌, subst, arith}
+use Rattle.workspace.specs.Conditions.{EntryMeaning, Sound, entry, condition, answer, after}
 use Rattle.workspace.specs.Shelves.{entries_of}
 use Rattle.workspace.specs.Templates.{TemplateMeaning}
-use Rattle.workspace.specs.Proposals.{template_of, proposed}
+use Rattle.workspace.specs.Proposals.{proposed}
 use Rattle.workspace.proofs.Calling.{shelve_ok, shelve_sound}
 use Rattle.workspace.proofs.workspace.Workspace.shelve.Goals as goal
 

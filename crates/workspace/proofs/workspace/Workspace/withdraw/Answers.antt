@@ -1,9 +1,6 @@
-use Rattle.std.proofs.Common.{◌≡◌, ℕ, ◌<◌, List, length, sym, refl, ap, ◌∙◌, subst, ap₂, arith}
-use Rattle.stores.specs.Stores.{StoreMeaning, insert_outcome}
-use Rattle.stores.specs.Stores as stores
-use Rattle.workspace.specs.Conditions.{Condition, EntryMeaning, Sound, condition, answer, after}
+use Rattle.std.proofs.Common.{◌<◌, List, length, sym, refl, ap, ◌∙◌, subst, arith}
+use Rattle.workspace.specs.Conditions.{EntryMeaning, Sound, condition, answer, after}
 use Rattle.workspace.specs.Shelves.{entries_of}
-use Rattle.workspace.specs.Proposals.{template_of, proposed}
 use Rattle.workspace.proofs.Calling.{withdraw_ok, withdraw_sound}
 use Rattle.workspace.proofs.workspace.Workspace.withdraw.Goals as goal
 
