@@ -7,7 +7,7 @@ use std::process::Abort;
 use stores::{Store, StoreRefusal};
 
 // How many calls a pile is driven through.
-const STEPS: u32 = 300;
+pub const STEPS: u32 = 300;
 
 // How many calls were answered, and how many were refused with each number.
 #[derive(Clone, Copy)]
@@ -63,6 +63,42 @@ pub fn check_same<S: Store>(rt: &impl Abort, store: &S, model: &Model) {
     assert_eq!(rt; numbered(store.read(model.count)), Err(9));
 }
 
+// A sequence of calls by a seed, and what they came to.
+#[derive(Clone, Copy)]
+pub struct Run {
+    source: Source,
+    tally: Tally,
+}
+
+impl Run {
+    // No calls yet.
+    pub fn new(seed: u32) -> Run {
+        Run {
+            source: Source::new(seed),
+            tally: Tally::new(),
+        }
+    }
+
+    // The next call, with the same answer by both, after which the store shows the list.
+    pub fn step<S: Store, K: TestKind>(
+        &mut self,
+        rt: &impl Abort,
+        store: &mut S,
+        model: &mut Model,
+    ) {
+        perform::<S, K>(rt, store, model, &mut self.source, &mut self.tally);
+        check_same(rt, store, model);
+    }
+
+    // Many calls were answered, and each number of refusal occurred.
+    pub fn check_varied(&self, rt: &impl Abort) {
+        assert!(rt; self.tally.answered > 100);
+        assert!(rt; self.tally.bad_gates > 5);
+        assert!(rt; self.tally.full > 5);
+        assert!(rt; self.tally.no_places > 5);
+    }
+}
+
 // One call, with the same answer by both.
 fn perform<S: Store, K: TestKind>(
     rt: &impl Abort,
@@ -91,17 +127,12 @@ fn perform<S: Store, K: TestKind>(
 
 // All the calls of a seed; each number of refusal has to occur.
 pub fn drive<S: Store, K: TestKind>(rt: &impl Abort, store: &mut S, model: &mut Model, seed: u32) {
-    let mut source = Source::new(seed);
-    let mut tally = Tally::new();
+    let mut run = Run::new(seed);
     check_same(rt, store, model);
     for _ in 0..STEPS {
-        perform::<S, K>(rt, store, model, &mut source, &mut tally);
-        check_same(rt, store, model);
+        run.step::<S, K>(rt, store, model);
     }
-    assert!(rt; tally.answered > 100);
-    assert!(rt; tally.bad_gates > 5);
-    assert!(rt; tally.full > 5);
-    assert!(rt; tally.no_places > 5);
+    run.check_varied(rt);
 }
 
 // Takes gates out and puts gates in until the list has 8.

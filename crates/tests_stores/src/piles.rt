@@ -1,4 +1,5 @@
 // Piles of three mounts over both stores, for both kinds.
+use crate::apart::*;
 use crate::drive::*;
 use crate::kinds::*;
 use crate::model::*;
@@ -10,9 +11,9 @@ use stores::{GapStore, PlainStore, Renamed, Reversed, Store, Window};
 const RECORDS: usize = 12;
 
 // A line table, and the one that leads back.
-const THERE: Table = [2, 0, 3, 1];
+pub const THERE: Table = [2, 0, 3, 1];
 
-const BACK: Table = [1, 3, 0, 2];
+pub const BACK: Table = [1, 3, 0, 2];
 
 // A window on a reversed mount on a renamed one.
 fn check_window_on_top<S: Store + Drop, K: TestKind>(
@@ -68,13 +69,16 @@ fn check_window_in_window<S: Store + Drop, K: TestKind>(
     store
 }
 
-// All three piles on one store, one after the other.
+// All three piles on one store, one after the other, whole and then taken apart after each call.
 fn check_piles<S: Store + Drop, K: TestKind>(rt: &impl Abort, store: S) {
     let mut model = Model::new(RECORDS);
     check_same(rt, &store, &model);
     let store = check_window_on_top::<S, K>(rt, store, &mut model);
     let store = check_window_between::<S, K>(rt, store, &mut model);
     let store = check_window_in_window::<S, K>(rt, store, &mut model);
+    let store = check_window_on_top_apart::<S, K>(rt, store, &mut model);
+    let store = check_window_between_apart::<S, K>(rt, store, &mut model);
+    let store = check_window_in_window_apart::<S, K>(rt, store, &mut model);
     drop(store);
 }
 
