@@ -6,7 +6,7 @@ use Rattle.gates.specs.declared.gate.Gate.{Gate}
 use Rattle.gates.specs.declared.gate.GateRefusal.TheVariants.{NotWellFormed}
 use Rattle.gates.specs.Kinds.{KindMeaning, Formed}
 use Rattle.stores.specs.declared.refusal.StoreRefusal.{StoreRefusal}
-use Rattle.stores.specs.declared.refusal.StoreRefusal.TheVariants.{Gate as Refused-gate, Full, NoSuchPlace}
+use Rattle.stores.specs.declared.refusal.StoreRefusal.TheVariants.{Gate as RefusedGate, Full, NoSuchPlace}
 use Rattle.stores.specs.Stores.{StoreMeaning, Outcome, with_gates, provided, answer, after, at, read_outcome, overwrite_outcome, insert_outcome, remove_outcome}
 
 pub provided_true : {X : Type 0} (b : Bool) (e : StoreRefusal) (r : Result X StoreRefusal) → b ≡ true → provided b e r ≡ r
@@ -53,13 +53,13 @@ module _ (m : StoreMeaning) (place : ℕ) where
     pub overwrite_past : length m.gates ≤ place → overwrite_outcome k m place g ≡ Err NoSuchPlace
     overwrite_past le = provided_false _ _ _ (le-ltb place (length m.gates) le)
 
-    pub overwrite_unformed : place < length m.gates → k.form m.lines g ≡ false → overwrite_outcome k m place g ≡ Err (Refused-gate NotWellFormed)
+    pub overwrite_unformed : place < length m.gates → k.form m.lines g ≡ false → overwrite_outcome k m place g ≡ Err (RefusedGate NotWellFormed)
     overwrite_unformed lt no-form = provided_true _ _ _ (lt-ltb place (length m.gates) lt) ∙ provided_false _ _ _ no-form
 
     pub insert_past : length m.gates < place → insert_outcome k m place g ≡ Err NoSuchPlace
     insert_past lt = provided_false _ _ _ (lt-leb place (length m.gates) lt)
 
-    pub insert_unformed : place ≤ length m.gates → k.form m.lines g ≡ false → insert_outcome k m place g ≡ Err (Refused-gate NotWellFormed)
+    pub insert_unformed : place ≤ length m.gates → k.form m.lines g ≡ false → insert_outcome k m place g ≡ Err (RefusedGate NotWellFormed)
     insert_unformed le no-form = provided_true _ _ _ (le-leb place (length m.gates) le) ∙ provided_false _ _ _ no-form
 
     pub insert_full : place ≤ length m.gates → Formed k m.lines g → m.capacity ≤ length m.gates → insert_outcome k m place g ≡ Err Full

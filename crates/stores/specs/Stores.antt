@@ -9,7 +9,7 @@ use Rattle.gates.specs.Lines.{width}
 use Rattle.gates.specs.Controls.{gate}
 use Rattle.gates.specs.Kinds.{KindMeaning, Formed}
 use Rattle.stores.specs.declared.refusal.StoreRefusal.{StoreRefusal}
-use Rattle.stores.specs.declared.refusal.StoreRefusal.TheVariants.{Lines, Gate as Refused-gate, Full, NoSuchPlace}
+use Rattle.stores.specs.declared.refusal.StoreRefusal.TheVariants.{Lines, Gate as RefusedGate, Full, NoSuchPlace}
 
 -- the most gates that a store can hold
 abbrev pub most : ℕ
@@ -40,7 +40,7 @@ Sound k m = AllByRecursion (Formed k m.lines) m.gates
 -- the numbers of refusals: 1 lines, 2 a gate that is not well formed, 3 at capacity, 9 no such place
 abbrev pub store_refusal_number : StoreRefusal → ℕ
 store_refusal_number Lines = 1
-store_refusal_number (Refused-gate r) = gate_refusal_number r
+store_refusal_number (RefusedGate r) = gate_refusal_number r
 store_refusal_number Full = 3
 store_refusal_number NoSuchPlace = 9
 
@@ -74,14 +74,14 @@ read_outcome m place = provided (nat_lt place (length m.gates)) NoSuchPlace (Ok 
 abbrev pub overwrite_outcome : KindMeaning → StoreMeaning → ℕ → Gate → Outcome (Unit {0})
 overwrite_outcome k m place g =
     provided (nat_lt place (length m.gates)) NoSuchPlace
-    (provided (k.form m.lines g) (Refused-gate NotWellFormed)
+    (provided (k.form m.lines g) (RefusedGate NotWellFormed)
     (Ok (tt, with_gates m (slice_set m.gates place g))))
 
 -- insert before a place, or at the end where the place is the count: 9, then 2, then 3
 abbrev pub insert_outcome : KindMeaning → StoreMeaning → ℕ → Gate → Outcome (Unit {0})
 insert_outcome k m place g =
     provided (nat_le place (length m.gates)) NoSuchPlace
-    (provided (k.form m.lines g) (Refused-gate NotWellFormed)
+    (provided (k.form m.lines g) (RefusedGate NotWellFormed)
     (provided (nat_lt (length m.gates) m.capacity) Full
     (Ok (tt, with_gates m (insert m.gates place g)))))
 

@@ -7,7 +7,7 @@ use Rattle.std.proofs.lemmas.Bool.{le-leb, lt-ltb}
 use Rattle.gates.specs.declared.gate.Gate.{Gate}
 use Rattle.gates.specs.declared.gate.GateRefusal.TheVariants.{NotWellFormed}
 use Rattle.gates.specs.Kinds.{KindMeaning, KindLaws}
-use Rattle.stores.specs.declared.refusal.StoreRefusal.TheVariants.{Gate as Refused-gate, Full}
+use Rattle.stores.specs.declared.refusal.StoreRefusal.TheVariants.{Gate as RefusedGate, Full}
 use Rattle.stores.specs.Stores.{StoreMeaning, with_gates, insert_outcome}
 use Rattle.stores.specs.Stores as stores
 use Rattle.stores.proofs.Outcomes as stores-outcomes
@@ -25,11 +25,11 @@ provided_true b e r h = ap (λ (x : Bool). provided x e r) h
 
 -- inserting with the place known to be there
 abbrev asked : Bool → Bool → StoreMeaning → stores.Outcome (Unit {0})
-asked form room m = stores.provided form (Refused-gate NotWellFormed) (stores.provided room Full (Ok (tt, m)))
+asked form room m = stores.provided form (RefusedGate NotWellFormed) (stores.provided room Full (Ok (tt, m)))
 
 both : (form room : Bool) (m now : StoreMeaning) (entries : List EntryMeaning)
-    → (stores.answer (asked form room now) ≡ answer (provided form (Refused-gate NotWellFormed) (provided room Full (Ok (tt {0}, condition now entries)))))
-    × (condition (stores.after m (asked form room now)) entries ≡ after (condition m entries) (provided form (Refused-gate NotWellFormed) (provided room Full (Ok (tt {0}, condition now entries)))))
+    → (stores.answer (asked form room now) ≡ answer (provided form (RefusedGate NotWellFormed) (provided room Full (Ok (tt {0}, condition now entries)))))
+    × (condition (stores.after m (asked form room now)) entries ≡ after (condition m entries) (provided form (RefusedGate NotWellFormed) (provided room Full (Ok (tt {0}, condition now entries)))))
 both true true m now entries = (refl, refl)
 both true false m now entries = (refl, refl)
 both false room m now entries = (refl, refl)

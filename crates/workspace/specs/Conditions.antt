@@ -6,7 +6,7 @@ use Rattle.gates.specs.declared.gate.Gate.{Gate}
 use Rattle.gates.specs.declared.gate.GateRefusal.TheVariants.{NotWellFormed}
 use Rattle.gates.specs.Kinds.{KindMeaning}
 use Rattle.stores.specs.declared.refusal.StoreRefusal.{StoreRefusal}
-use Rattle.stores.specs.declared.refusal.StoreRefusal.TheVariants.{Gate as Refused-gate, Full}
+use Rattle.stores.specs.declared.refusal.StoreRefusal.TheVariants.{Gate as RefusedGate, Full}
 use Rattle.stores.specs.Stores.{StoreMeaning, with_gates}
 use Rattle.stores.specs.Stores as stores
 use Rattle.workspace.specs.declared.refusal.TemplateRefusal.{TemplateRefusal}
@@ -74,7 +74,7 @@ provided b e r = cond b r (Err e)
 -- append puts a gate at the end of the list: 2 where it is not well formed, then 3 where the list is at capacity
 abbrev pub append_outcome : KindMeaning → Condition → Gate → Outcome (Unit {0}) StoreRefusal
 append_outcome k c g =
-    provided (k.form c.store.lines g) (Refused-gate NotWellFormed)
+    provided (k.form c.store.lines g) (RefusedGate NotWellFormed)
     (provided (nat_lt (length c.store.gates) c.store.capacity) Full
     (Ok (tt, condition (with_gates c.store (c.store.gates ++ g ∷ [])) c.shelf)))
 

@@ -15,16 +15,9 @@ use super::frame::Frame;
 use super::named::Named;
 use super::posed::{Member, Posed};
 use super::posing::pose;
+use super::template::BLANK;
 use super::{PositionSet, Template};
 use gates::{Gate, GateKind, Sign};
-
-// What stands behind a frame.
-const BLANK: Gate = Gate {
-    a: 0,
-    b: 0,
-    positive: 0,
-    negative: 0,
-};
 
 // The gates on the new lines of a table.
 fn rename<K: GateKind>(posed: &Posed, table: &[u8]) -> Posed

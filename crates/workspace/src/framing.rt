@@ -3,16 +3,8 @@ ghost use Rattle.std.specs.Prelude.{◌≡◌, take};
 ghost use Rattle.workspace.specs.Matching.{frame_at};
 
 use super::frame::{Frame, REACH};
-use gates::Gate;
+use super::template::BLANK;
 use stores::Store;
-
-// What stands behind the gates of a frame.
-const BLANK: Gate = Gate {
-    a: 0,
-    b: 0,
-    positive: 0,
-    negative: 0,
-};
 
 // The frame from a place on: no gate where the list ends before it.
 pub(crate) fn frame_from<S: Store>(store: &S, first: usize) -> Frame

@@ -1,6 +1,6 @@
 // The numbers that can come next in a key, one function for each part of a key.
 ghost use Rattle.std.specs.Prelude.{◌≡◌, ℕ, ◌-◌, ◌*◌, ◌^◌, ◌<◌, ◌≤◌, min, not, ◌&&◌, ltb, List, length, drop, nat_le, nat_lt, slice_index};
-ghost use Rattle.gates.specs.declared.gate.Gate.{Gate as A-gate};
+ghost use Rattle.gates.specs.declared.gate.Gate.{Gate as GateRecord};
 ghost use Rattle.gates.specs.Kinds.{KindMeaning};
 ghost use Rattle.gates.specs.Lines.{bit};
 ghost use Rattle.search.specs.Keys.{keyed};
@@ -72,7 +72,7 @@ fn is_mapped(key: &Key, x: u8) -> bool
 
 // Whether each of the first few gates can still stand somewhere, where line x is the image of the line.
 fn is_possible<K: GateKind>(start: &Start, note: &Note, few: usize, line: u8, x: u8) -> bool
-    ensures { (gates : List A-gate) (first : ℕ) → Started K.means gates first start.now → x < 32 → result ≡ possible K.means (frame_at gates first) note.now (min few 8) line x }
+    ensures { (gates : List GateRecord) (first : ℕ) → Started K.means gates first start.now → x < 32 → result ≡ possible K.means (frame_at gates first) note.now (min few 8) line x }
 {
     for place in 0..few.min(8) {
         let set = narrowed_set::<K>(
@@ -98,7 +98,7 @@ pub(crate) fn next_lines<K: GateKind>(
     line: u8,
     lines: u8,
 ) -> u64
-    ensures { (gates : List A-gate) (first : ℕ) → Started K.means gates first start.now → lines ≤ 32
+    ensures { (gates : List GateRecord) (first : ℕ) → Started K.means gates first start.now → lines ≤ 32
         → IsSet result (λ x. nat_lt x lines && (not (has_number_lem (drop 6 (keyed key.now)) x) && possible K.means (frame_at gates first) note.now (min few 8) line x)) }
 {
     let mut set = 0;
@@ -112,7 +112,7 @@ pub(crate) fn next_lines<K: GateKind>(
 
 // The distances at which the gate of that number can stand, behind the one that was chosen last.
 pub(crate) fn next_places(start: &Start, note: &Note, place: usize, last: usize) -> u64
-    ensures { (k : KindMeaning) (gates : List A-gate) (first : ℕ) → Started k gates first start.now → place < 8
+    ensures { (k : KindMeaning) (gates : List GateRecord) (first : ℕ) → Started k gates first start.now → place < 8
         → IsSet result (λ d. bit (slice_index note.now.reached place) d && (nat_lt d (length (frame_at gates first)) && (nat_lt last d && movable k (frame_at gates first) note.now.chosen d))) }
 {
     if place < 8 {

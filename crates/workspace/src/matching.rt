@@ -8,17 +8,11 @@ use super::notes::Note;
 use super::occurs::is_occurrence;
 use super::posed::{Member, Posed};
 use super::start::{Start, start_at};
+use super::template::BLANK;
 use super::{Holdings, levels, noting};
-use gates::{Gate, LineSet};
+use gates::LineSet;
 use search::{Key, Problem, Shown, candidates};
 use stores::Store;
-
-const BLANK: Gate = Gate {
-    a: 0,
-    b: 0,
-    positive: 0,
-    negative: 0,
-};
 
 impl<S: Store> Problem for Holdings<S> {
     type Start = Start;

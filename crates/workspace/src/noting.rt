@@ -1,8 +1,8 @@
 // Making notes: a template is posed, its lines are mapped one by one, places are chosen one by one.
 ghost use Rattle.std.specs.Prelude.{◌≡◌, ℕ, ◌<◌, ◌≤◌, ◌&&◌, ◌||◌, List, length, ◌==◌, slice_index};
-ghost use Rattle.gates.specs.declared.gate.Gate.{Gate as A-gate};
+ghost use Rattle.gates.specs.declared.gate.Gate.{Gate as GateRecord};
 ghost use Rattle.gates.specs.Lines.{bit};
-ghost use Rattle.workspace.specs.Matching.{frame_at, members_of, posed as posed-list};
+ghost use Rattle.workspace.specs.Matching.{frame_at, members_of, posed as posed_list};
 ghost use Rattle.workspace.specs.Notes.{can_stand, gate_of_lem, open_reach};
 ghost use Rattle.workspace.specs.Proposals.{template_of};
 ghost use Rattle.workspace.specs.Starts.{IsSet, Started};
@@ -25,7 +25,7 @@ pub(crate) fn posed_note<K: GateKind>(
     flips: LineSet,
 ) -> Note
     ensures poses { rotation ≤ length (template_of template.now).gates
-        → members_of result.posed.members result.posed.count ≡ posed-list K.means (template_of template.now) back rotation flips }
+        → members_of result.posed.members result.posed.count ≡ posed_list K.means (template_of template.now) back rotation flips }
     ensures reaches { result.reached ≡ open_reach }
     ensures chooses { result.chosen ≡ 1 }
 {
@@ -38,7 +38,7 @@ pub(crate) fn posed_note<K: GateKind>(
 
 // The distances of the set at which the image of the gate can stand, where line x is the image of its line.
 pub(crate) fn narrowed_set<K: GateKind>(start: &Start, set: u64, gate: Gate, line: u8, x: u8) -> u64
-    ensures { (gates : List A-gate) (first : ℕ) → Started K.means gates first start.now → x < 32 → IsSet result (λ d. bit set d && can_stand K.means (frame_at gates first) gate line x d) }
+    ensures { (gates : List GateRecord) (first : ℕ) → Started K.means gates first start.now → x < 32 → IsSet result (λ d. bit set d && can_stand K.means (frame_at gates first) gate line x d) }
 {
     set & role_set::<K>(start, gate, line, x)
 }
@@ -46,7 +46,7 @@ pub(crate) fn narrowed_set<K: GateKind>(start: &Start, set: u64, gate: Gate, lin
 // The note after line x became the image of the line.
 pub(crate) fn narrowed<K: GateKind>(start: &Start, above: &Note, line: u8, x: u8) -> Note
     ensures poses { result.posed ≡ above.now.posed }
-    ensures reaches { (j : ℕ) (gates : List A-gate) (first : ℕ) → j < 8 → Started K.means gates first start.now → x < 32
+    ensures reaches { (j : ℕ) (gates : List GateRecord) (first : ℕ) → j < 8 → Started K.means gates first start.now → x < 32
         → IsSet (slice_index result.reached j) (λ d. bit (slice_index above.now.reached j) d && can_stand K.means (frame_at gates first) (gate_of_lem above.now j) line x d) }
     ensures chooses { result.chosen ≡ above.now.chosen }
 {

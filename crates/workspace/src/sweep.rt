@@ -1,5 +1,5 @@
 // Sweeping and settling: the search for what occurs, and the replacement of what the policy singles out.
-ghost use Rattle.std.specs.Prelude.{◌≡◌};
+ghost use Rattle.std.specs.Prelude.{◌≡◌, OnErr};
 ghost use Rattle.workspace.specs.Conditions.{Sound};
 ghost use Rattle.workspace.specs.Holdings.{condition_of};
 ghost use Rattle.workspace.specs.Promises.{Event, KeptAfter, KeptSettling, Promised};
@@ -41,6 +41,7 @@ impl<S: Store, P: Policy> Workspace<S, P> {
     // Sweeps until nothing occurs or the budget is used. After a replacement it need not look at the places before which
     // nothing occurred and nothing in reach has changed.
     pub fn settle(&mut self, budget: usize) -> Result<Settling, SettleRefusal>
+        ensures refused { OnErr result (self.new ≡ self.old) }
         ensures promised { Promised S.Kind.GateKind.means P.Policy.rule (condition_of S.Store.means self.old.holdings) (Event.settle budget result) (condition_of S.Store.means self.new.holdings) }
         ensures policy { Sound S.Kind.GateKind.means (condition_of S.Store.means self.old.holdings) → KeptSettling S.Kind.GateKind.means P.Policy.rule result (condition_of S.Store.means self.new.holdings) (P.Policy.kept self.old.policy) (P.Policy.kept self.new.policy) }
     {

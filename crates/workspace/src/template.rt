@@ -16,8 +16,8 @@ pub const MOST_GATES: usize = 8;
 // How many groups a template lists at most.
 pub const MOST_GROUPS: usize = 3;
 
-// What stands behind a template's gates.
-const BLANK: Gate = Gate {
+// What stands where a table has no gate.
+pub(crate) const BLANK: Gate = Gate {
     a: 0,
     b: 0,
     positive: 0,

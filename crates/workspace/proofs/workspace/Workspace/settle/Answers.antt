@@ -21,6 +21,7 @@ returns-then-budget-gt-MOST_BUDGET g c =
     let k = g.S.Kind.GateKind.means in
     let before = condition_of g.S.Store.means c.args.self.now.holdings in
     record {
+      refused = refl;
       promised = (sym (lt-leb c.args.budget 4096 c.if-budget-gt-MOST_BUDGET.true), λ sound. record { outcome = refl; shortened = unshortened k before sound });
       policy = λ sound. refl;
     }
@@ -38,6 +39,7 @@ returns-then-replacements-budget g c =
     let all : Sound k before → Chosen (OccursIn k here) (shown_of here.shelf) rule (Some key) kept =
     λ sound. c.in-Some.ensures.chosen (searchable k here (g.S.Store.bounded h.store) (few_entries h.shelf.entries h.shelf.count h.shelf.wide h.shelf.few) (at sound).shortened.sound) (at sound).below in
     record {
+      refused = tt;
       promised = (
         sym (le-leb c.args.budget 4096 (omega arith)),
         λ sound. record {
@@ -81,6 +83,7 @@ returns g c =
     let all : Sound k before → Chosen (OccursIn k here) (shown_of here.shelf) rule None kept =
     λ sound. c.in_default.ensures.chosen (searchable k here (g.S.Store.bounded h.store) (few_entries h.shelf.entries h.shelf.count h.shelf.wide h.shelf.few) (at sound).shortened.sound) (at sound).below in
     record {
+      refused = tt;
       promised = (
         sym (le-leb c.args.budget 4096 (omega arith)),
         λ sound. record {
