@@ -6,25 +6,16 @@ usage: python3 tools/by_recursion.py [FOLDER]     (FOLDER: the repository, defau
 The library's All went by recursion and goes by index today; its AllByRecursion says what All said. So All becomes AllByRecursion, and the
 lemmas on it come from the module of that form.
 """
-import os
 import re
-import sys
 
-ROOT = sys.argv[1] if len(sys.argv) > 1 else "."
+from respell import texts
+
 IMPORT = re.compile(r"^(?P<lead>(?:ghost )?use )(?P<home>Rattle\.std\.(?:specs\.Prelude|proofs\.Common))\.\{(?P<names>[^}]*)\}(?P<end>;?)$", re.M)
 DECIDES = re.compile(r"^use Rattle\.std\.proofs\.lemmas\.Bool\.Decides\.\{(?P<names>[^}]*)\}$", re.M)
 ELEMENTS = "Rattle.std.proofs.lemmas.List.Elements."
 ALL = re.compile(r"(?<![\w.'-])All(?![\w'-])")
 COMMENT = re.compile(r"\s*(?:--|//)")
 BY_RECURSION = "Rattle.std.proofs.ByRecursion."
-
-
-def texts():
-    for folder, dirs, files in os.walk(os.path.join(ROOT, "crates")):
-        dirs[:] = sorted(d for d in dirs if d != "out")
-        for name in sorted(files):
-            if name.endswith((".antt", ".rt")):
-                yield os.path.join(folder, name)
 
 
 def split(names, moved):

@@ -122,4 +122,5 @@ def main():
     print(f"{len(new)} names respelled in {changed} files")
 
 
-main()
+if __name__ == "__main__":
+    main()
