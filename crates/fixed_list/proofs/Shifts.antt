@@ -1,0 +1,49 @@
+-- Lists in arrays: what moving the later items up leaves.
+use Rattle.std.proofs.Common.{◌≡◌, ℕ, subst, get_or, zero, suc, [], ◌∷◌, refl, slice_set, ◌+◌, ◌-◌, ◌<◌, ◌≤◌, Bool, List, ◌++◌, length, take, drop, sym, ap, ap₂, ◌∙◌, arith, cond}
+use Rattle.std.specs.List.{AllZip, copy_within, remove}
+use Rattle.std.proofs.lemmas.Slice.Zip.{AllZip-long}
+use Rattle.std.proofs.lemmas.Bool.{lt-ltb}
+use Rattle.std.proofs.lemmas.List.{drop-take, take-take, take_more, length-drop, length-take-le}
+use Rattle.std.proofs.lemmas.List.Edits.{take-paste}
+use Rattle.fixed_list.specs.Lists.{pushed, removed}
+
+module _ {T : Type 0} (xs : List T) (count place : ℕ) (there : place < count) (within : count ≤ length xs) where
+  -- one item less: those before the place, and those behind it
+  moved_up : take (count - 1) (copy_within xs (place + 1) count place) ≡ remove (take count xs) place
+  moved_up =
+      let k = count - (place + 1) in
+      let front : count - 1 ≡ place + k = omega arith in
+      let whole : count ≡ suc place + k = omega arith in
+      let next : place + 1 ≡ suc place = omega arith in
+      ap (λ (n : ℕ). take n (copy_within xs (place + 1) count place)) front
+      ∙ take-paste xs place (drop (place + 1) xs) k (omega arith) (omega (arith, length-drop (place + 1) xs))
+      ∙ ap₂ (λ (a b : List T). a ++ b)
+      (sym (take-take place count xs (omega arith)))
+      (ap (λ (n : ℕ). take k (drop n xs)) next ∙ sym (drop-take (suc place) k xs) ∙ ap (λ (n : ℕ). drop (suc place) (take n xs)) (sym whole))
+
+  pub shifted : take (count - 1) (copy_within xs (place + 1) count place) ≡ removed (take count xs) place
+  shifted =
+      let inside : place < length (take count xs) = omega (arith, length-take-le count xs within) in
+      moved_up ∙ sym (ap (λ (t : Bool). cond t (remove (take count xs) place) (take count xs)) (lt-ltb place (length (take count xs)) inside))
+
+-- an item changed among the first ones
+pub changed_in : {T : Type 0} (n : ℕ) (xs : List T) (i : ℕ) (y : T) → take n (slice_set xs i y) ≡ slice_set (take n xs) i y
+changed_in zero xs i y = refl
+changed_in (suc n) [] i y = refl
+changed_in (suc n) (x ∷ xs) zero y = refl
+changed_in (suc n) (x ∷ xs) (suc i) y = ap (λ (r : List _). x ∷ r) (changed_in n xs i y)
+
+-- one item more on each side
+zip_more : {A B : Type 0} (R : A → B → Type 0) (xs : List A) (ys : List B) (x : A) (y : B) → AllZip R xs ys → R x y → AllZip R (xs ++ x ∷ []) (ys ++ y ∷ [])
+zip_more R [] [] x y zipped one = (one, tt)
+zip_more R [] (b ∷ ys) x y zipped one = absurd zipped
+zip_more R (a ∷ xs) [] x y zipped one = absurd zipped
+zip_more R (a ∷ xs) (b ∷ ys) x y zipped one = (zipped.0, zip_more R xs ys x y zipped.1 one)
+
+-- one item more is turned, and there is room for it
+pub turned_more : {A B : Type 0} (R : A → B → Type 0) (xs : List A) (ys : List B) (i most : ℕ) (d : A) (y : B)
+    → i < length xs → length xs ≤ most → AllZip R (take i xs) ys → R (get_or xs i d) y → AllZip R (take (i + 1) xs) (pushed most ys y)
+turned_more R xs ys i most d y inside few zipped one =
+    let room : length ys < most = omega (arith, AllZip-long R (take i xs) ys zipped, length-take-le i xs (omega arith)) in
+    subst (AllZip R (take (i + 1) xs)) (sym (ap (λ (t : Bool). cond t (ys ++ y ∷ []) ys) (lt-ltb (length ys) most room)))
+    (subst (λ (zs : List _). AllZip R zs (ys ++ y ∷ [])) (sym (take_more xs i d inside)) (zip_more R (take i xs) ys (get_or xs i d) y zipped one))
