@@ -1,7 +1,8 @@
 -- Lists around a gap: what moving the gap and editing at it leave.
 use Rattle.std.proofs.Common.{◌≡◌, ℕ, suc, ◌+◌, ◌-◌, ◌<◌, ◌≤◌, ltb, List, [], ◌∷◌, ◌++◌, length, get_or, take, drop, set, sym, refl, ap, ◌∙◌, ap₂, arith}
-use Rattle.std.specs.List.{insert, remove}
-use Rattle.std.proofs.lemmas.List.{append_assoc, length-append, length-drop, length-set, length-take-le, take_at, drop_at, take-set-le, take_more, take_more_set, drop-set, drop-set-lt, drop_more, drop-drop, drop-set-add, get_or_append_left, get_or-append_right, get_or-take, get_or-drop, set-append_left, set-append_right}
+use Rattle.std.specs.List.{copy_within, insert, remove}
+use Rattle.std.proofs.lemmas.List.Edits.{drop-paste, length-paste, take-paste}
+use Rattle.std.proofs.lemmas.List.{append_assoc, length-append, length-drop, length-set, length-take-le, take_at, drop_at, take-set-le, take_more, take_more_set, drop-set, drop-set-lt, drop_more, drop-drop, drop-set-add, drop-take, take-append-drop, take-append-le, take-take, get_or_append_left, get_or-append_right, get_or-take, get_or-drop, set-append_left, set-append_right}
 use Rattle.gates.specs.declared.gate.Gate.{Gate}
 use Rattle.std.proofs.lemmas.Bool.{cond_both, ltb-true, ltb-false}
 use Rattle.stores.specs.Memory.{around_gap, record_of, in_memory, GapMoved}
@@ -51,33 +52,57 @@ write_at xs f b within p y lt =
     cond_both (ltb p f) p (p + (length xs - (f + b))) (λ x. around_gap (set xs x y) f b ≡ set (around_gap xs f b) p y)
     (λ e. write_front xs f b within p y (ltb-true p f e)) (λ e. write_back xs f b within p y (ltb-false p f e) lt)
 
--- one record goes from before the gap to behind it
-pub step_down : (xs : List Gate) (f b : ℕ) (d : Gate) → suc f + b ≤ length xs
-    → around_gap (set xs (length xs - b - 1) (get_or xs f d)) f (b + 1) ≡ around_gap xs (suc f) b
-step_down xs f b d within =
-    let t = length xs - b - 1 in
-    let x = get_or xs f d in
-    let low : f ≤ t = omega arith in
-    let here : t < length xs = omega arith in
-    let there : f < length xs = omega arith in
-    ap (λ (n : ℕ). take f (set xs t x) ++ drop (n - (b + 1)) (set xs t x)) (length-set xs t x)
-    ∙ ap (λ (n : ℕ). take f (set xs t x) ++ drop n (set xs t x)) (let e : length xs - (b + 1) ≡ t = omega arith in e)
-    ∙ ap₂ ◌++◌ (take-set-le f xs t x low) (drop-set xs t x here)
-    ∙ sym (append_assoc (take f xs) (x ∷ []) (drop (t + 1) xs))
-    ∙ ap₂ ◌++◌ (sym (take_more xs f d there) ∙ ap (λ (i : ℕ). take i xs) (let e : f + 1 ≡ suc f = omega arith in e)) (ap (λ (i : ℕ). drop i xs) (let e : t + 1 ≡ length xs - b = omega arith in e))
+module _ (l : ℕ) (xs : List Gate) (f b p : ℕ) (within : f + b ≤ length xs) where
+  -- how many records are free
+  abbrev free : ℕ
+  free = length xs - (f + b)
 
--- one record goes from behind the gap to before it
-pub step_up : (xs : List Gate) (f b : ℕ) (d : Gate) → f + suc b ≤ length xs
-    → around_gap (set xs f (get_or xs (length xs - suc b) d)) (f + 1) b ≡ around_gap xs f (suc b)
-step_up xs f b d within =
-    let t = length xs - suc b in
-    let x = get_or xs t d in
-    let here : f < length xs = omega arith in
-    let there : t < length xs = omega arith in
-    ap (λ (n : ℕ). take (f + 1) (set xs f x) ++ drop (n - b) (set xs f x)) (length-set xs f x)
-    ∙ ap₂ ◌++◌ (take_more_set xs f x here) (drop-set-lt (length xs - b) xs f x (let h : f < length xs - b = omega arith in h))
-    ∙ append_assoc (take f xs) (x ∷ []) (drop (length xs - b) xs)
-    ∙ ap (λ (r : List Gate). take f xs ++ r) (ap (λ (i : ℕ). x ∷ drop i xs) (let e : length xs - b ≡ t + 1 = omega arith in e) ∙ sym (drop_more xs t d there))
+  -- the gates from a place on go from before the gap to behind it
+  pub moved_down : p ≤ f → GapMoved l xs f b l (copy_within xs p f (p + free)) p (f + b - p)
+  moved_down le =
+      let k = f - p in
+      let to = p + free in
+      let ys = copy_within xs p f to in
+      let here : to ≤ length xs = omega arith in
+      let some : k ≤ length (drop p xs) = omega (arith, length-drop p xs) in
+      let long : length ys ≡ length xs = length-paste xs to (drop p xs) k (omega arith) some in
+      let back : length ys - (f + b - p) ≡ to = omega arith in
+      let moved = take k (drop p xs) ++ drop (to + k) xs in
+      let whole : ys ≡ take to xs ++ moved = append_assoc (take to xs) (take k (drop p xs)) (drop (to + k) xs) in
+      let reach : length (take to xs) ≡ to = length-take-le to xs here in
+      let split : take p xs ++ take k (drop p xs) ≡ take f xs =
+      ap₂ (λ (u v : List Gate). u ++ v) (sym (take-take p f xs le)) (sym (drop-take p k xs) ∙ ap (λ (n : ℕ). drop p (take n xs)) (let e : p + k ≡ f = omega arith in e))
+      ∙ take-append-drop p (take f xs) in
+      let before : take p ys ≡ take p xs = ap (take p) whole ∙ take-append-le p (take to xs) moved (omega arith) ∙ take-take p to xs (omega arith) in
+      let behind : drop to ys ≡ moved = ap (drop to) whole ∙ drop_at (take to xs) moved to reach in
+      let list : around_gap ys p (f + b - p) ≡ around_gap xs f b =
+      ap₂ (λ (u v : List Gate). u ++ v) before
+      (ap (λ (n : ℕ). drop n ys) back ∙ behind ∙ ap (λ (n : ℕ). take k (drop p xs) ++ drop n xs) (let e : to + k ≡ length xs - b = omega arith in e))
+      ∙ sym (append_assoc (take p xs) (take k (drop p xs)) (drop (length xs - b) xs))
+      ∙ ap (λ (r : List Gate). r ++ drop (length xs - b) xs) split in
+      record { same = ap₂ (in_memory l) long list; sum = omega arith; long = long; on = refl }
+
+  -- the gates before a place go from behind the gap to before it
+  pub moved_up : f ≤ p → p ≤ f + b → GapMoved l xs f b l (copy_within xs (f + free) (p + free) f) p (f + b - p)
+  moved_up ge le =
+      let k = p + free - (f + free) in
+      let from = f + free in
+      let ys = copy_within xs from (p + free) f in
+      let some : k ≤ length (drop from xs) = omega (arith, length-drop from xs) in
+      let long : length ys ≡ length xs = length-paste xs f (drop from xs) k (omega arith) some in
+      let last : length xs - b ≡ from = omega arith in
+      let here : p ≡ f + k = omega arith in
+      let before : take p ys ≡ take f xs ++ take k (drop from xs) = ap (λ (n : ℕ). take n ys) here ∙ take-paste xs f (drop from xs) k (omega arith) some in
+      let rest : drop p ys ≡ drop p xs = ap (λ (n : ℕ). drop n ys) here ∙ drop-paste xs f (drop from xs) k (omega arith) some ∙ ap (λ (n : ℕ). drop n xs) (sym here) in
+      let behind : drop (length ys - (f + b - p)) ys ≡ drop k (drop from xs) =
+      ap (λ (n : ℕ). drop n ys) (let e : length ys - (f + b - p) ≡ p + free = omega arith in e)
+      ∙ sym (drop-drop free p ys) ∙ ap (drop free) rest ∙ drop-drop free p xs
+      ∙ ap (λ (n : ℕ). drop n xs) (let e : p + free ≡ from + k = omega arith in e) ∙ sym (drop-drop k from xs) in
+      let list : around_gap ys p (f + b - p) ≡ around_gap xs f b =
+      ap₂ (λ (u v : List Gate). u ++ v) before behind
+      ∙ append_assoc (take f xs) (take k (drop from xs)) (drop k (drop from xs))
+      ∙ ap (λ (r : List Gate). take f xs ++ r) (take-append-drop k (drop from xs) ∙ ap (λ (n : ℕ). drop n xs) (sym last)) in
+      record { same = ap₂ (in_memory l) long list; sum = omega arith; long = long; on = refl }
 
 -- a gate that comes in at the gap
 pub gap_inserted : (xs : List Gate) (f b : ℕ) (y : Gate) → f + b < length xs → around_gap (set xs f y) (f + 1) b ≡ insert (around_gap xs f b) f y
@@ -106,39 +131,3 @@ gap_cleared xs f b y within =
     let i = length xs - suc b in
     ap (λ (n : ℕ). take f (set xs i y) ++ drop (n - b) (set xs i y)) (length-set xs i y)
     ∙ ap₂ ◌++◌ (take-set-le f xs i y (let h : f ≤ i = omega arith in h)) (drop-set-lt (length xs - b) xs i y (let h : i < length xs - b = omega arith in h))
-
--- moving on
-pub moved_then : {l : ℕ} {xs : List Gate} {f b : ℕ} {l' : ℕ} {xs' : List Gate} {f' b' : ℕ} {l'' : ℕ} {xs'' : List Gate} {f'' b'' : ℕ}
-    → GapMoved l xs f b l' xs' f' b' → GapMoved l' xs' f' b' l'' xs'' f'' b'' → GapMoved l xs f b l'' xs'' f'' b''
-moved_then p q = record { same = q.same ∙ p.same; sum = q.sum ∙ p.sum; long = q.long ∙ p.long; on = q.on ∙ p.on }
-
-pub moved_none : (l : ℕ) (xs : List Gate) (f b : ℕ) → GapMoved l xs f b l xs f b
-moved_none l xs f b = record { same = refl; sum = refl; long = refl; on = refl }
-
-pub moved_down : (l : ℕ) (xs : List Gate) (f b : ℕ) (d : Gate) → 0 < f → f + b ≤ length xs
-    → GapMoved l xs f b l (set xs (length xs - b - 1) (get_or xs (f - 1) d)) (f - 1) (b + 1)
-moved_down l xs f b d some within =
-    let ys = set xs (length xs - b - 1) (get_or xs (f - 1) d) in
-    let is : suc (f - 1) ≡ f = omega arith in
-    let long : length ys ≡ length xs = length-set xs (length xs - b - 1) (get_or xs (f - 1) d) in
-    record {
-      same = ap₂ (in_memory l) long (step_down xs (f - 1) b d (omega arith) ∙ ap (λ (n : ℕ). around_gap xs n b) is);
-      sum = omega arith;
-      long = long;
-      on = refl;
-    }
-
-pub moved_up : (l : ℕ) (xs : List Gate) (f b : ℕ) (d : Gate) → 0 < b → f + b ≤ length xs
-    → GapMoved l xs f b l (set xs f (get_or xs (length xs - b) d)) (f + 1) (b - 1)
-moved_up l xs f b d some within =
-    let is : suc (b - 1) ≡ b = omega arith in
-    let ys = set xs f (get_or xs (length xs - b) d) in
-    let long : length ys ≡ length xs = length-set xs f (get_or xs (length xs - b) d) in
-    record {
-      same =
-          ap₂ (in_memory l) long
-          (ap (λ (n : ℕ). around_gap (set xs f (get_or xs (length xs - n) d)) (f + 1) (b - 1)) (sym is) ∙ step_up xs f (b - 1) d (omega arith) ∙ ap (around_gap xs f) is);
-      sum = omega arith;
-      long = long;
-      on = refl;
-    }

@@ -1,16 +1,36 @@
 -- Outcomes of a store's calls where nothing stands in their way, and lists after an edit.
-use Rattle.std.proofs.Common.{◌≡◌, ℕ, zero, suc, ◌<◌, ◌≤◌, Bool, true, false, cond, ltb, List, [], ◌∷◌, length, take, set, Ok, Err, Result, sym, refl, ap, ◌∙◌, arith}
+use Rattle.std.proofs.Common.{◌≡◌, ℕ, zero, suc, ◌<◌, ◌≤◌, Bool, true, false, cond, ltb, leb, List, [], ◌∷◌, length, take, set, Ok, Err, Result, sym, refl, ap, ◌∙◌, arith}
 use Rattle.std.specs.List.{insert, remove}
-use Rattle.std.proofs.lemmas.Bool.{ltb-true, lt-ltb, le-leb, le-ltb, lt-leb}
+use Rattle.std.proofs.lemmas.Bool.{ltb-true, leb-true, lt-ltb, le-leb, le-ltb, lt-leb}
 use Rattle.gates.specs.declared.gate.Gate.{Gate}
+use Rattle.gates.specs.declared.gate.GateRefusal.{GateRefusal}
 use Rattle.gates.specs.declared.gate.GateRefusal.TheVariants.{NotWellFormed}
 use Rattle.gates.specs.Kinds.{KindMeaning, Formed}
+use Rattle.gates.specs.Refusals.{gate_outcome}
 use Rattle.stores.specs.declared.refusal.StoreRefusal.{StoreRefusal}
 use Rattle.stores.specs.declared.refusal.StoreRefusal.TheVariants.{Gate as RefusedGate, Full, NoSuchPlace}
-use Rattle.stores.specs.Stores.{StoreMeaning, Outcome, with_gates, provided, answer, after, at, read_outcome, overwrite_outcome, insert_outcome, remove_outcome}
+use Rattle.stores.specs.Stores.{StoreMeaning, Outcome, with_gates, provided, place_outcome, place_before_outcome, answer, after, at, read_outcome, overwrite_outcome, insert_outcome, remove_outcome}
 
 pub provided_true : {X : Type 0} (b : Bool) (e : StoreRefusal) (r : Result X StoreRefusal) → b ≡ true → provided b e r ≡ r
 provided_true b e r h = ap (λ (x : Bool). provided x e r) h
+
+-- what checks that let through tell
+passed : (b : Bool) (e : StoreRefusal) → ◌≡◌ {A = Result (Unit {0}) StoreRefusal} (Ok tt) (provided b e (Ok tt)) → b ≡ true
+passed true e told = refl
+passed false e told = absurd (let z : ◌≡◌ {A = ℕ} 0 1 = cc in omega arith)
+
+pub place_told : (place count : ℕ) → ◌≡◌ {A = Result (Unit {0}) StoreRefusal} (Ok tt) (place_outcome place count) → place < count
+place_told place count told = ltb-true place count (passed (ltb place count) NoSuchPlace told)
+
+pub place_before_told : (place count : ℕ) → ◌≡◌ {A = Result (Unit {0}) StoreRefusal} (Ok tt) (place_before_outcome place count) → place ≤ count
+place_before_told place count told = leb-true place count (passed (leb place count) NoSuchPlace told)
+
+pub gate_told : (k : KindMeaning) (lines : ℕ) (g : Gate) → ◌≡◌ {A = Result (Unit {0}) GateRefusal} (Ok tt) (gate_outcome k lines g) → Formed k lines g
+gate_told k lines g told = by (k.form lines g) told
+  where
+    by : (b : Bool) → ◌≡◌ {A = Result (Unit {0}) GateRefusal} (Ok tt) (cond b (Ok tt) (Err NotWellFormed)) → b ≡ true
+    by true e = refl
+    by false e = absurd (let z : ◌≡◌ {A = ℕ} 0 1 = cc in omega arith)
 
 module _ (m : StoreMeaning) (place : ℕ) where
   pub read_ok : place < length m.gates → read_outcome m place ≡ Ok (at m place)

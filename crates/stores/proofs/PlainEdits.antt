@@ -1,23 +1,65 @@
 -- The lists at the front of records after an edit.
-use Rattle.std.proofs.Common.{◌≡◌, ℕ, suc, ◌+◌, ◌-◌, ◌<◌, ◌≤◌, List, ◌++◌, length, take, drop, sym, ap, ◌∙◌, arith}
-use Rattle.std.specs.List.{insert, remove}
-use Rattle.std.proofs.lemmas.List.{take_at, drop_at, drop-drop, length-take-le}
-use Rattle.std.proofs.lemmas.List.Edits.{length-insert, length-remove}
+use Rattle.std.proofs.Common.{◌≡◌, ℕ, suc, ◌+◌, ◌-◌, ◌<◌, ◌≤◌, Bool, cond, List, ◌∷◌, ◌++◌, length, [], get_or, take, drop, set, sym, ap, ◌∙◌, ap₂, arith}
+use Rattle.std.specs.List.{copy_within, insert, remove}
+use Rattle.std.proofs.lemmas.List.{append_assoc, drop-set-lt, drop-take, length-drop, length-take-le, set_at, take-take, take_at, take_more}
+use Rattle.std.proofs.lemmas.List.Edits.{drop-paste, length-remove, take-paste}
+use Rattle.std.proofs.lemmas.Bool.{lt-ltb}
+use Rattle.fixed_list.proofs.Shifts.{shifted}
+use Rattle.stores.proofs.Outcomes.{take_set_in}
+
+module _ {X : Type 0} (xs : List X) (n p : ℕ) where
+  -- the records from a place on, up to place n, moved up by one, and a record written there
+  module _ (y : X) (lt : n < length xs) (le : p ≤ n) where
+    k : ℕ
+    k = n - p
+
+    up : List X
+    up = copy_within xs p n (p + 1)
+
+    end : n + 1 ≡ (p + 1) + k
+    unfolding k
+    end = omega arith
+
+    inside : p + 1 ≤ length xs
+    inside = omega arith
+
+    some : k ≤ length (drop p xs)
+    unfolding k
+    some = omega (arith, length-drop p xs)
+
+    moved : take (n + 1) up ≡ take p xs ++ get_or xs p y ∷ take k (drop p xs)
+    unfolding k up
+    moved =
+        ap (λ (i : ℕ). take i up) end
+        ∙ take-paste xs (p + 1) (drop p xs) k inside some
+        ∙ ap (λ (r : List X). r ++ take k (drop p xs)) (take_more xs p y (omega arith))
+        ∙ append_assoc (take p xs) (get_or xs p y ∷ []) (take k (drop p xs))
+
+    pub front_inserted : take (n + 1) (set (copy_within xs p n (p + 1)) p y) ≡ insert (take n xs) p y
+    unfolding k up
+    front_inserted =
+        take_set_in (n + 1) up p y
+        ∙ ap (λ (r : List X). set r p y) moved
+        ∙ set_at (take p xs) (get_or xs p y) (take k (drop p xs)) y p (length-take-le p xs (omega arith))
+        ∙ ap₂ (λ (u v : List X). u ++ y ∷ v)
+        (sym (take-take p n xs le))
+        (sym (drop-take p k xs) ∙ ap (λ (i : ℕ). drop p (take i xs)) (let e : p + k ≡ n = omega arith in e))
+
+    pub behind_inserted : drop (n + 1) (set (copy_within xs p n (p + 1)) p y) ≡ drop (n + 1) xs
+    unfolding k up
+    behind_inserted =
+        drop-set-lt (n + 1) up p y (omega arith)
+        ∙ ap (λ (i : ℕ). drop i up) end
+        ∙ drop-paste xs (p + 1) (drop p xs) k inside some
+        ∙ ap (λ (i : ℕ). drop i xs) (sym end)
+
+-- the records behind a place, up to place n, moved down by one
+pub removed_moved : {X : Type 0} (xs : List X) (n p : ℕ) → p < n → n ≤ length xs → take (n - 1) (copy_within xs (p + 1) n p) ≡ remove (take n xs) p
+removed_moved xs n p lt le =
+    let here : p < length (take n xs) = omega (arith, length-take-le n xs le) in
+    shifted xs n p lt le ∙ ap (λ (b : Bool). cond b (remove (take n xs) p) (take n xs)) (lt-ltb p (length (take n xs)) here)
 
 module _ {X : Type 0} (xs : List X) (n : ℕ) where
-  module _ (p : ℕ) (y : X) (lt : n < length xs) (le : p ≤ n) where
-    long : length (insert (take n xs) p y) ≡ n + 1
-    long =
-        let few : length (take n xs) ≡ n = length-take-le n xs (let h : n ≤ length xs = omega arith in h) in
-        let within : p ≤ length (take n xs) = omega arith in
-        omega (arith, length-insert (take n xs) p y within)
-
-    pub front_inserted : take (n + 1) (insert (take n xs) p y ++ drop (suc n) xs) ≡ insert (take n xs) p y
-    front_inserted = take_at (insert (take n xs) p y) (drop (suc n) xs) (n + 1) long
-
-    pub behind_inserted : drop (n + 1) (insert (take n xs) p y ++ drop (suc n) xs) ≡ drop (n + 1) xs
-    behind_inserted = drop_at (insert (take n xs) p y) (drop (suc n) xs) (n + 1) long ∙ ap (λ (i : ℕ). drop i xs) (let e : suc n ≡ n + 1 = omega arith in e)
-
   module _ (p : ℕ) (lt : p < n) (le : n ≤ length xs) where
     short : length (remove (take n xs) p) ≡ n - 1
     short =
@@ -28,10 +70,3 @@ module _ {X : Type 0} (xs : List X) (n : ℕ) where
     pub front_removed : take (n - 1) (remove (take n xs) p ++ drop (n - 1) xs) ≡ remove (take n xs) p
     front_removed = take_at (remove (take n xs) p) (drop (n - 1) xs) (n - 1) short
 
-    pub behind_removed : drop n (remove (take n xs) p ++ drop (n - 1) xs) ≡ drop n xs
-    behind_removed =
-        ap (λ (i : ℕ). drop i (remove (take n xs) p ++ drop (n - 1) xs)) (let e : n ≡ (n - 1) + 1 = omega arith in e)
-        ∙ sym (drop-drop 1 (n - 1) (remove (take n xs) p ++ drop (n - 1) xs))
-        ∙ ap (drop 1) (drop_at (remove (take n xs) p) (drop (n - 1) xs) (n - 1) short)
-        ∙ drop-drop 1 (n - 1) xs
-        ∙ ap (λ (i : ℕ). drop i xs) (let e : (n - 1) + 1 ≡ n = omega arith in e)

@@ -1,25 +1,45 @@
 -- Rearrangements: what the test tells, and the table that leads back.
 use Rattle.std.proofs.Common.{◌≡◌, ℕ, zero, suc, ◌+◌, ◌<◌, ◌≤◌, Bool, true, false, cond, not, ◌&&◌, ◌||◌, eqb, ltb, leb, ◌⊎◌, List, [], ◌∷◌, ◌++◌, map, length, get_or, take, drop, set, sym, refl, ap, ◌∙◌, subst, ap₂, inl, inr, arith}
-use Rattle.std.specs.List.{AllByRecursion}
+use Rattle.std.specs.List.{AllByRecursion, list_all, position, position_or_len, range_with_len}
+use Rattle.std.specs.Prelude.{◌==◌, unwrap_or, Some, None}
+use Rattle.std.proofs.lemmas.List.Recursion.{is_position_or_len}
+use Rattle.std.proofs.lemmas.List.Sums.{prefix_len-le-length}
 use lib.ListN.{length-map}
-use Rattle.std.proofs.lemmas.List.{at_drop_more, at_drop_all, get_or-map, map-append, take-map, drop-map, map-set}
+use Rattle.std.proofs.lemmas.List.{at_drop_more, at_drop_all, take_all, get_or-map, map-append, take-map, drop-map, map-set}
 use Rattle.std.proofs.ByRecursion.{All-get_or, All-from_get_or}
-use Rattle.std.proofs.lemmas.Bool.{cases_Bool, cases_eq, eq-eqb, ne_eqb, eqb-true, ltb-true, leb-true, and_parts, and_left, and_right, not-true, both_ways, or_cases}
+use Rattle.std.proofs.lemmas.Bool.{cases_eq, cases_lt, lt-ltb, le-ltb, eq-eqb, ne_eqb, eqb-true, ltb-true, leb-true, and_parts, and_left, and_right, not-true, both_ways, or_cases}
 use Rattle.gates.specs.Lines.{Table, width, bit, every_below, counted, unmoved}
 use Rattle.gates.specs.Controls.{with_member}
-use Rattle.gates.specs.Members.{every_at, bit_none}
+use Rattle.gates.specs.Members.{every_at, every_same, bit_none}
 use Rattle.gates.specs.ControlSets.{member_at, unmoved_at, unmoved_table}
 use Rattle.gates.specs.declared.gate.Gate.{Gate}
 use Rattle.gates.specs.Kinds.{KindMeaning, KindLaws, Formed}
 use Rattle.std.specs.List.{insert, remove}
 use Rattle.stores.specs.Mounts.{completes, rearranges, place_of, inverse_of, Rearranged, shown_gate}
 
-pub every_fails : (n : ℕ) (P : ℕ → Bool) (i : ℕ) → i < n → P i ≡ false → every_below n P ≡ false
-every_fails n P i lt no_one = by (cases_Bool (every_below n P))
+-- a test of each number below n, begun at the first
+every_first : (n : ℕ) (P : ℕ → Bool) → every_below (suc n) P ≡ (P 0 && every_below n (λ i. P (suc i)))
+unfolding every_below
+every_first zero P = refl
+every_first (suc n) P = ap (λ (b : Bool). P (suc n) && b) (every_first n P) ∙ turned (P (suc n)) (P 0) (every_below n (λ i. P (suc i)))
   where
-    by : (every_below n P ≡ true) ⊎ (every_below n P ≡ false) → every_below n P ≡ false
-    by (inl e) = absurd (both_ways (P i) no_one (every_at n P e i lt))
-    by (inr e) = e
+    turned : (a b c : Bool) → (a && (b && c)) ≡ (b && (a && c))
+    turned true true c = refl
+    turned true false c = refl
+    turned false true c = refl
+    turned false false c = refl
+
+listed_from : (P : ℕ → Bool) (a n : ℕ) → list_all P (range_with_len a n) ≡ every_below n (λ i. P (a + i))
+unfolding every_below
+listed_from P a zero = refl
+listed_from P a (suc n) =
+    ap₂ ◌&&◌ (ap P (let e : a ≡ a + 0 = omega arith in e))
+    (listed_from P (a + 1) n ∙ every_same n (λ i. P (a + 1 + i)) (λ i. P (a + suc i)) (λ i lt. ap P (omega arith)))
+    ∙ sym (every_first n (λ i. P (a + i)))
+
+-- a test of the numbers below n, one after the other
+pub all_listed : (n : ℕ) (P : ℕ → Bool) → list_all P (range_with_len 0 n) ≡ every_below n P
+all_listed n P = listed_from P 0 n ∙ every_same n (λ i. P (0 + i)) P (λ i lt. ap P (omega arith))
 
 -- a line of the table that is too large, or that came before
 pub completes_stops : (n seen : ℕ) (t : List ℕ) (i : ℕ) → i < length t → (ltb (get_or t i 0) n && not (bit seen (get_or t i 0))) ≡ false → completes n seen (drop i t) ≡ false
@@ -37,17 +57,19 @@ completes_ends n seen t i le = at_drop_all (completes n seen) t i le
 pub no_rearrangement : (n : ℕ) (t : List ℕ) → completes n 0 t ≡ false → rearranges n t ≡ false
 no_rearrangement n t bad = and_right (leb n width) _ (and_right (eqb (length t) n) _ bad)
 
--- where a line stands
-pub place_here : (t : List ℕ) (i j : ℕ) → i < length t → get_or t i 0 ≡ j → place_of (drop i t) j ≡ 0
-place_here t i j lt e =
-    at_drop_more (λ r. place_of r j) t i 0 lt ∙ ap (λ (b : Bool). cond b 0 (suc (place_of (drop (i + 1) t) j))) (eq-eqb (get_or t i 0) j e)
+-- where a line stands is the first place at which it is found, or the length
+pub place_found : (t : List ℕ) (j : ℕ) → unwrap_or (position (λ x. x == j) t) (length t) ≡ place_of t j
+place_found t j = by (cases_lt first (length t))
+  where
+    first : ℕ
+    first = position_or_len (λ x. x == j) t
 
-pub place_further : (t : List ℕ) (i j : ℕ) → i < length t → (get_or t i 0 ≡ j → ⊥) → place_of (drop i t) j ≡ suc (place_of (drop (i + 1) t) j)
-place_further t i j lt ne =
-    at_drop_more (λ r. place_of r j) t i 0 lt ∙ ap (λ (b : Bool). cond b 0 (suc (place_of (drop (i + 1) t) j))) (ne_eqb (get_or t i 0) j ne)
+    same : place_of t j ≡ first
+    same = is_position_or_len (λ r. place_of r j) (λ x. x == j) refl (λ x r. ap (cond (x == j) 0) (omega arith)) t
 
-pub place_none : (t : List ℕ) (i j : ℕ) → length t ≤ i → place_of (drop i t) j ≡ 0
-place_none t i j le = at_drop_all (λ r. place_of r j) t i le
+    by : (first < length t) ⊎ (length t ≤ first) → unwrap_or (position (λ x. x == j) t) (length t) ≡ place_of t j
+    by (inl lt) = ap (λ (b : Bool). unwrap_or (cond b (Some first) None) (length t)) (lt-ltb first (length t) lt) ∙ sym same
+    by (inr ge) = ap (λ (b : Bool). unwrap_or (cond b (Some first) None) (length t)) (le-ltb first (length t) ge) ∙ omega (arith, prefix_len-le-length (λ x. not (x == j)) t) ∙ sym same
 
 -- what completing tells: the lines of the table are below n, none of them was seen, none stands twice, and every line was seen or stands in it
 below_all : (n seen : ℕ) (t : List ℕ) → completes n seen t ≡ true → AllByRecursion (λ x. x < n) t
@@ -156,21 +178,37 @@ counted_more i few = ap (counted i) (let e : few + 1 ≡ suc few = omega arith i
     further i zero = ap (λ (n : ℕ). n ∷ []) (let e : i ≡ i + 0 = omega arith in e)
     further i (suc few) = ap (λ (r : List ℕ). i ∷ r) (further (suc i) few ∙ ap (λ (n : ℕ). counted (suc i) few ++ n ∷ []) (let e : suc i + few ≡ i + suc few = omega arith in e))
 
+-- no lines, rearranged
+pub none_rearranged : rearranges 0 [] ≡ true
+unfolding every_below
+none_rearranged = refl
+
+-- a rearrangement has as many entries as there are lines, and there are few
+pub sized : (n : ℕ) (t : List ℕ) → true ≡ rearranges n t → (length t ≡ n) × (n ≤ width)
+sized n t h = (long n t (sym h), few n t (sym h))
+
+-- so it is taken whole where there is room for the lines
+pub taken : (n : ℕ) (t : List ℕ) → true ≡ rearranges n t → take width t ≡ t
+taken n t h = take_all width t (let size = sized n t h in omega (arith, size.0, size.1))
+
 -- a gate that is written through the old lines is shown as it was, and is well formed
-pub written_back : {k : KindMeaning} → KindLaws k → (n : ℕ) (new old : List ℕ) → rearranges n (take n new) ≡ true → take n old ≡ inverse_of n (take n new)
-    → (lines : ℕ) (y : Gate) → Formed k lines y → Formed k lines (shown_gate k n old lines y) × (shown_gate k n new lines (shown_gate k n old lines y) ≡ y)
-written_back {k} laws n new old sound inverse lines y formed = by (eqb n lines) refl
+pub written_back : {k : KindMeaning} → KindLaws k → (new old : List ℕ) → rearranges (length new) new ≡ true → old ≡ inverse_of (length new) new
+    → (lines : ℕ) (y : Gate) → Formed k lines y → Formed k lines (shown_gate k old lines y) × (shown_gate k new lines (shown_gate k old lines y) ≡ y)
+written_back {k} laws new old sound inverse lines y formed = rw (ap length inverse ∙ back_long n new sound) (by (eqb n lines) refl)
   where
+    n : ℕ
+    n = length new
+
     by : (b : Bool) → eqb n lines ≡ b
-        → Formed k lines (cond b (k.renamed (take n old) y) y) × (cond b (k.renamed (take n new) (cond b (k.renamed (take n old) y) y)) (cond b (k.renamed (take n old) y) y) ≡ y)
+        → Formed k lines (cond b (k.renamed old y) y) × (cond b (k.renamed new (cond b (k.renamed old y) y)) (cond b (k.renamed old y) y) ≡ y)
     by false e = (formed, refl)
     by true e =
         let same : lines ≡ n = sym (eqb-true n lines e) in
-        let r = rearranged n (take n new) sound in
+        let r = rearranged n new sound in
         let there : Formed k n y = subst (λ (l : ℕ). Formed k l y) same formed in
-        let back : Table n n (take n old) = subst (Table n n) (sym inverse) r.back_again in (
-          subst (λ (l : ℕ). Formed k l (k.renamed (take n old) y)) (sym same) (laws.renamed_formed n n (take n old) y back there),
-          laws.renamed_back n (take n old) (take n new) y back r.there (λ i lt. ap (λ (u : List ℕ). get_or (take n new) (get_or u i 0) 0) inverse ∙ r.redone i lt) there,
+        let back : Table n n old = subst (Table n n) (sym inverse) r.back_again in (
+          subst (λ (l : ℕ). Formed k l (k.renamed old y)) (sym same) (laws.renamed_formed n n old y back there),
+          laws.renamed_back n old new y back r.there (λ i lt. ap (λ (u : List ℕ). get_or new (get_or u i 0) 0) inverse ∙ r.redone i lt) there,
         )
 
 -- edits of a list, each element of which is shown by f

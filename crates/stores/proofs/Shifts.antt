@@ -2,34 +2,11 @@
 use Rattle.std.proofs.Common.{◌≡◌, ℕ, zero, suc, ◌<◌, ◌≤◌, List, [], ◌∷◌, ◌++◌, length, get_or, take, drop, set, refl, ap, arith}
 use Rattle.std.specs.List.{insert, remove}
 
--- the records from place `at` on, up to place n, have moved up by one
-abbrev pub lifted : {X : Type 0} → List X → ℕ → ℕ → List X
-lifted xs n at = take (suc at) xs ++ (drop at (take n xs) ++ drop (suc n) xs)
-
 -- the records behind place p, up to place `at`, have moved down by one
 abbrev pub lowered : {X : Type 0} → List X → ℕ → ℕ → List X
 lowered xs p at = take p xs ++ (drop (suc p) (take (suc at) xs) ++ drop at xs)
 
 module _ {X : Type 0} where
-  pub lifted_none : (xs : List X) (n : ℕ) → n < length xs → xs ≡ lifted xs n n
-  lifted_none [] n lt = absurd (let z : ⊥ = omega arith in z)
-  lifted_none (x ∷ xs) zero lt = refl
-  lifted_none (x ∷ xs) (suc n) lt = ap (λ (r : List X). x ∷ r) (lifted_none xs n (omega arith))
-
-  pub lifted_more : (xs : List X) (n at : ℕ) (d : X) → n < length xs → suc at ≤ n
-      → set (lifted xs n (suc at)) (suc at) (get_or (lifted xs n (suc at)) at d) ≡ lifted xs n at
-  lifted_more [] n at d lt le = absurd (let z : ⊥ = omega arith in z)
-  lifted_more (x ∷ []) n at d lt le = absurd (let z : ⊥ = omega arith in z)
-  lifted_more (x ∷ y ∷ xs) zero at d lt le = absurd (let z : ⊥ = omega arith in z)
-  lifted_more (x ∷ y ∷ xs) (suc n) zero d lt le = refl
-  lifted_more (x ∷ y ∷ xs) (suc n) (suc at) d lt le = ap (λ (r : List X). x ∷ r) (lifted_more (y ∷ xs) n at d (omega arith) (omega arith))
-
-  pub lifted_all : (xs : List X) (n p : ℕ) (y : X) → n < length xs → p ≤ n → set (lifted xs n p) p y ≡ insert (take n xs) p y ++ drop (suc n) xs
-  lifted_all [] n p y lt le = absurd (let z : ⊥ = omega arith in z)
-  lifted_all (x ∷ xs) n zero y lt le = refl
-  lifted_all (x ∷ xs) zero (suc p) y lt le = absurd (let z : ⊥ = omega arith in z)
-  lifted_all (x ∷ xs) (suc n) (suc p) y lt le = ap (λ (r : List X). x ∷ r) (lifted_all xs n p y (omega arith) (omega arith))
-
   pub lowered_none : (xs : List X) (p : ℕ) → p < length xs → xs ≡ lowered xs p p
   lowered_none [] p lt = absurd (let z : ⊥ = omega arith in z)
   lowered_none (x ∷ []) zero lt = refl

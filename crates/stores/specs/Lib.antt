@@ -4,3 +4,4 @@ pub mod MemoryFacts
 pub mod Mounts
 pub mod MountFacts
 pub mod Laws
+pub mod Held

@@ -22,8 +22,8 @@ pub reversed_bounded : (k : KindMeaning) (m : StoreMeaning) → Bounded m → Bo
 reversed_bounded k m b = same_bounded m (backward k m.gates) (backward_long k m.gates) b
 
 -- a renamed store
-pub renamed_bounded : (k : KindMeaning) (n : ℕ) (table : List ℕ) (m : StoreMeaning) → Bounded m → Bounded (renamed_view k n table m)
-renamed_bounded k n table m b = same_bounded m (map (shown_gate k n table m.lines) m.gates) (length-map m.gates (shown_gate k n table m.lines)) b
+pub renamed_bounded : (k : KindMeaning) (table : List ℕ) (m : StoreMeaning) → Bounded m → Bounded (renamed_view k table m)
+renamed_bounded k table m b = same_bounded m (map (shown_gate k table m.lines) m.gates) (length-map m.gates (shown_gate k table m.lines)) b
 
 -- a window
 pub window_bounded : (start size : ℕ) (m : StoreMeaning) → Bounded m → Bounded (window start size m)

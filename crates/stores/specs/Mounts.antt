@@ -63,13 +63,13 @@ pub record Rearranged (n : ℕ) (table back : List ℕ) : Type 0 where
   pub undone : (i : ℕ) → i < n → slice_index back (slice_index table i) ≡ i
   pub redone : (i : ℕ) → i < n → slice_index table (slice_index back i) ≡ i
 
--- a gate through the first n entries of a table, for a store of that many lines; for another store the gate itself
-abbrev pub shown_gate : KindMeaning → ℕ → List ℕ → ℕ → Gate → Gate
-shown_gate k n table lines g = cond (n == lines) (k.renamed (take n table) g) g
+-- a gate on the new lines of a table, for a store of as many lines as the table has; for another store the gate itself
+abbrev pub shown_gate : KindMeaning → List ℕ → ℕ → Gate → Gate
+shown_gate k table lines g = cond (length table == lines) (k.renamed table g) g
 
 -- each gate of the store so shown
-abbrev pub renamed_view : KindMeaning → ℕ → List ℕ → StoreMeaning → StoreMeaning
-renamed_view k n table m = with_gates m (map (shown_gate k n table m.lines) m.gates)
+abbrev pub renamed_view : KindMeaning → List ℕ → StoreMeaning → StoreMeaning
+renamed_view k table m = with_gates m (map (shown_gate k table m.lines) m.gates)
 
 -- checking a line table for a store: 1 where it is no rearrangement of the store's lines
 abbrev pub table_outcome : StoreMeaning → List ℕ → Result (Unit {0}) StoreRefusal

@@ -62,6 +62,14 @@ after m (Err e) = m
 abbrev pub provided : {X : Type 0} → Bool → StoreRefusal → Result X StoreRefusal → Result X StoreRefusal
 provided b e r = cond b r (Err e)
 
+-- asking for a place at which a gate stands: 9 where there is none
+abbrev pub place_outcome : ℕ → ℕ → Result (Unit {0}) StoreRefusal
+place_outcome place count = provided (nat_lt place count) NoSuchPlace (Ok tt)
+
+-- asking for a place before which a gate can come in: 9 where there is none
+abbrev pub place_before_outcome : ℕ → ℕ → Result (Unit {0}) StoreRefusal
+place_before_outcome place count = provided (nat_le place count) NoSuchPlace (Ok tt)
+
 -- the gate at a place; past the end some gate, which no answer shows
 abbrev pub at : StoreMeaning → ℕ → Gate
 at m place = slice_index_or m.gates place (gate 0 0 0 0)

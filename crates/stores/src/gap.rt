@@ -1,49 +1,27 @@
 // The gap store: the first gates at the front of memory that the caller lends, the others at its back, free records between.
-ghost use Rattle.std.specs.Prelude.{◌≡◌, ◌+◌, ◌-◌, ◌<◌, ◌≤◌, min, max, length};
+ghost use Rattle.std.specs.Prelude.{◌≡◌, ◌+◌, ◌<◌, ◌≤◌, length};
+ghost use Rattle.stores.specs.Held.{gap_held};
 ghost use Rattle.stores.specs.Memory.{GapMoved, apart, gap, made_lines, moved_by, record_of};
 ghost use Rattle.stores.specs.MemoryFacts.{gap_bounded};
 ghost use Rattle.stores.specs.Stores.{after, answer, insert_outcome, remove_outcome};
 
-use super::{MOST, Store, StoreRefusal};
-use gates::{Gate, GateKind, GateRefusal};
+use super::checks::{check_place, check_place_before, made_lines};
+use super::{GapStore, MOST, Store, StoreRefusal};
+use gates::{Gate, GateKind, check_gate};
 use std::marker::PhantomData;
-
-// What a record holds when its gate has been taken out.
-const CLEARED: Gate = Gate {
-    a: 0,
-    b: 0,
-    positive: 0,
-    negative: 0,
-};
-
-// A list of gates around a gap of free records, so that edits near one place move few records.
-#[derive(Drop)]
-pub struct GapStore<'a, K> {
-    records: &'a mut [Gate],
-    front: usize,
-    back: usize,
-    lines: u8,
-    moved: usize,
-    kind: PhantomData<K>,
-    ghost some_line: { 1 ≤ lines },
-    ghost few_lines: { lines ≤ 32 },
-    ghost within: { front + back ≤ length records.now },
-    ghost few: { front + back ≤ 4096 },
-}
 
 impl<'a, K: GateKind> GapStore<'a, K> {
     // An empty store of so many lines in the lent records, whatever they hold; of 1 line where that is not 1 to 32.
     pub fn new(records: &'a mut [Gate], lines: u8) -> GapStore<'a, K>
         ensures holds { result.records.now ≡ records.old }
         ensures unmoved { result.moved ≡ 0 }
-        ensures empty { gap result.lines result.records.now result.front result.back ≡ gap (made_lines lines) records.old 0 0 }
+        ensures empty { gap_held result ≡ gap (made_lines lines) records.old 0 0 }
     {
-        let lines = if 1 <= lines && lines <= 32 { lines } else { 1 };
         GapStore {
             records,
             front: 0,
             back: 0,
-            lines,
+            lines: made_lines(lines),
             moved: 0,
             kind: PhantomData,
         }
@@ -69,43 +47,6 @@ impl<'a, K: GateKind> GapStore<'a, K> {
         }
     }
 
-    // Moves gates from before the gap to behind it until no more than `place` are before it; answers how many records moved, each once.
-    fn lower_gap(&mut self, place: usize) -> usize
-        ensures keeps { GapMoved self.old.lines self.old.records.now self.old.front self.old.back self.new.lines self.new.records.now self.new.front self.new.back }
-        ensures front { self.new.front ≡ min self.old.front place }
-        ensures moved { result ≡ self.old.front - place }
-    {
-        let mut moved = 0;
-        while place < self.front {
-            let from = self.front - 1;
-            let to = self.records.len() - self.back - 1;
-            self.records[to] = self.records[from];
-            self.front = from;
-            self.back += 1;
-            moved += 1;
-        }
-        moved
-    }
-
-    // Moves gates from behind the gap to before it until no fewer than `place` are before it; answers how many records moved, each once.
-    fn raise_gap(&mut self, place: usize) -> usize
-        requires { place ≤ self.old.front + self.old.back }
-        ensures keeps { GapMoved self.old.lines self.old.records.now self.old.front self.old.back self.new.lines self.new.records.now self.new.front self.new.back }
-        ensures front { self.new.front ≡ max self.old.front place }
-        ensures moved { result ≡ place - self.old.front }
-    {
-        let mut moved = 0;
-        while self.front < place {
-            let to = self.front;
-            let from = self.records.len() - self.back;
-            self.records[to] = self.records[from];
-            self.front = to + 1;
-            self.back -= 1;
-            moved += 1;
-        }
-        moved
-    }
-
     // Moves the gap to a place of the list; answers how many records moved, each once.
     fn move_gap(&mut self, place: usize) -> usize
         requires { place ≤ self.old.front + self.old.back }
@@ -113,11 +54,18 @@ impl<'a, K: GateKind> GapStore<'a, K> {
         ensures front { self.new.front ≡ place }
         ensures moved { result ≡ apart self.old.front place }
     {
-        if place < self.front {
-            self.lower_gap(place)
+        let count = self.front + self.back;
+        let free = self.records.len() - count;
+        let (moving, to) = if place < self.front {
+            (place..self.front, place + free)
         } else {
-            self.raise_gap(place)
-        }
+            (self.front + free..place + free, self.front)
+        };
+        let moved = moving.len();
+        self.records.copy_within(moving, to);
+        self.front = place;
+        self.back = count - place;
+        moved
     }
 }
 
@@ -125,7 +73,7 @@ impl<'a, K: GateKind> GapStore<'a, K> {
 impl<K: GateKind> Store for GapStore<'_, K> {
     type Kind = K;
 
-    ghost means = { λ s. gap s.lines s.records.now s.front s.back };
+    ghost means = { gap_held };
 
     ghost bounded = { λ s. gap_bounded s.lines s.records.now s.front s.back s.some_line s.few_lines s.within s.few };
 
@@ -142,37 +90,27 @@ impl<K: GateKind> Store for GapStore<'_, K> {
     }
 
     fn read(&self, place: usize) -> Result<Gate, StoreRefusal> {
-        if place >= self.count() {
-            return Err(StoreRefusal::NoSuchPlace);
-        }
+        check_place(place, self.count())?;
         let record = self.record_of(place);
         Ok(self.records[record])
     }
 
     fn overwrite(&mut self, place: usize, gate: Gate) -> Result<(), StoreRefusal> {
-        if place >= self.count() {
-            return Err(StoreRefusal::NoSuchPlace);
-        }
-        if !K::is_well_formed(gate, self.lines) {
-            return Err(StoreRefusal::Gate(GateRefusal::NotWellFormed));
-        }
+        check_place(place, self.count())?;
+        check_gate::<K>(gate, self.lines)?;
         let record = self.record_of(place);
         self.records[record] = gate;
         Ok(())
     }
 
     fn insert(&mut self, place: usize, gate: Gate) -> Result<(), StoreRefusal>
-        ensures answers { result ≡ answer (insert_outcome K.GateKind.means (gap self.old.lines self.old.records.now self.old.front self.old.back) place gate) }
-        ensures leaves { gap self.new.lines self.new.records.now self.new.front self.new.back ≡ after (gap self.old.lines self.old.records.now self.old.front self.old.back) (insert_outcome K.GateKind.means (gap self.old.lines self.old.records.now self.old.front self.old.back) place gate) }
+        ensures answers { result ≡ answer (insert_outcome K.GateKind.means (gap_held self.old) place gate) }
+        ensures leaves { gap_held self.new ≡ after (gap_held self.old) (insert_outcome K.GateKind.means (gap_held self.old) place gate) }
         ensures moves { self.new.moved ≡ moved_by result (apart self.old.front place) self.old.moved }
     {
         let count = self.count();
-        if place > count {
-            return Err(StoreRefusal::NoSuchPlace);
-        }
-        if !K::is_well_formed(gate, self.lines) {
-            return Err(StoreRefusal::Gate(GateRefusal::NotWellFormed));
-        }
+        check_place_before(place, count)?;
+        check_gate::<K>(gate, self.lines)?;
         if count >= self.capacity() {
             return Err(StoreRefusal::Full);
         }
@@ -183,14 +121,14 @@ impl<K: GateKind> Store for GapStore<'_, K> {
     }
 
     fn remove(&mut self, place: usize) -> Result<Gate, StoreRefusal>
-        ensures answers { result ≡ answer (remove_outcome (gap self.old.lines self.old.records.now self.old.front self.old.back) place) }
-        ensures leaves { gap self.new.lines self.new.records.now self.new.front self.new.back ≡ after (gap self.old.lines self.old.records.now self.old.front self.old.back) (remove_outcome (gap self.old.lines self.old.records.now self.old.front self.old.back) place) }
+        ensures answers { result ≡ answer (remove_outcome (gap_held self.old) place) }
+        ensures leaves { gap_held self.new ≡ after (gap_held self.old) (remove_outcome (gap_held self.old) place) }
         ensures moves { self.new.moved ≡ moved_by result (apart self.old.front place) self.old.moved }
     {
         let gate = self.read(place)?;
         self.moved = self.move_gap(place);
         let freed = self.records.len() - self.back;
-        self.records[freed] = CLEARED;
+        self.records[freed] = Gate::BLANK;
         self.back -= 1;
         Ok(gate)
     }

@@ -1,8 +1,10 @@
 // Stores of gates: lists in memory that the caller lends, and views of other stores.
 #![tactic(auto)]
 
+mod checks;
 mod gap;
 mod laws;
+mod memory;
 mod plain;
 mod rearrangement;
 mod refusal;
@@ -11,9 +13,10 @@ mod reversed;
 mod store;
 mod window;
 
-pub use gap::GapStore;
-pub use laws::{check_lines, store_laws};
-pub use plain::{MOST, PlainStore};
+pub use checks::check_lines;
+pub use laws::store_laws;
+pub use memory::{GapStore, PlainStore};
+pub use plain::MOST;
 pub use rearrangement::{Rearrangement, is_rearrangement};
 pub use refusal::StoreRefusal;
 pub use renamed::{Renamed, check_table};

@@ -1,4 +1,8 @@
-// Why a store refuses a call.
+// Why a store refuses a call, and the numbers of refusals.
+ghost use Rattle.std.specs.Prelude.{◌≡◌};
+ghost use Rattle.stores.specs.Stores.{store_refusal_number};
+ghost use Rattle.stores.specs.declared.refusal.StoreRefusal.TheVariants.{Gate as RefusedGate};
+
 use gates::GateRefusal;
 
 // A call that is refused changes nothing.
@@ -12,4 +16,27 @@ pub enum StoreRefusal {
     Full,
     // There is no such place, or no such window.
     NoSuchPlace,
+}
+
+// A gate that is refused is no gate for a store.
+impl From<GateRefusal> for StoreRefusal {
+    ghost from_gives = { λ refusal given. given ≡ RefusedGate refusal };
+
+    fn from(refusal: GateRefusal) -> StoreRefusal {
+        StoreRefusal::Gate(refusal)
+    }
+}
+
+impl StoreRefusal {
+    // The refusal's number, by which users know it.
+    pub fn number(self) -> u8
+        ensures { result ≡ store_refusal_number self }
+    {
+        match self {
+            StoreRefusal::Lines => 1,
+            StoreRefusal::Gate(refusal) => refusal.number(),
+            StoreRefusal::Full => 3,
+            StoreRefusal::NoSuchPlace => 9,
+        }
+    }
 }

@@ -1,10 +1,12 @@
 // The renamed mount: another store's gates, each through a line table.
 ghost use Rattle.std.specs.Prelude.{◌≡◌};
+ghost use Rattle.fixed_list.specs.Lists.{contents};
 ghost use Rattle.stores.specs.MountFacts.{renamed_bounded};
 ghost use Rattle.stores.specs.Mounts.{renamed_made, renamed_view, shown_gate, table_outcome};
 
+use super::checks::{check_place, check_place_before};
 use super::{Rearrangement, Store, StoreRefusal, is_rearrangement};
-use gates::{Gate, GateKind, GateRefusal};
+use gates::{Gate, GateKind, check_gate};
 
 // Shows each gate of the store below on its new lines; what is written goes back to the old ones.
 #[derive(Drop)]
@@ -28,40 +30,25 @@ impl<S: Store> Renamed<S> {
     // The mount on a store; where the check refuses the table, it shows the list unaltered.
     pub fn new(below: S, table: &[u8]) -> Renamed<S>
         ensures holds { result.below ≡ below }
-        ensures shows { renamed_view S.Kind.GateKind.means result.table.lines result.table.new (S.Store.means result.below) ≡ renamed_made S.Kind.GateKind.means table.now (S.Store.means below) }
+        ensures shows { renamed_view S.Kind.GateKind.means (contents result.table.new) (S.Store.means result.below) ≡ renamed_made S.Kind.GateKind.means table.now (S.Store.means below) }
     {
-        let lines = below.lines();
-        Renamed {
-            below,
-            table: Rearrangement::new(table, lines),
-        }
+        let table = Rearrangement::new(table, below.lines());
+        Renamed { below, table }
     }
 
     // The store below, as it is now.
     pub fn into_below(self) -> S
         ensures { result ≡ self.below }
     {
-        let Renamed { below, table: _ } = self;
-        below
+        self.below
     }
 
-    // A gate of the store below as the mount shows it.
-    fn shown(&self, gate: Gate) -> Gate
-        ensures { result ≡ shown_gate S.Kind.GateKind.means self.now.table.lines self.now.table.new (S.Store.means self.now.below).lines gate }
+    // A gate on the new lines of a table, where the table is for as many lines as the store below has; else the gate itself.
+    fn through(&self, table: &[u8], gate: Gate) -> Gate
+        ensures { result ≡ shown_gate S.Kind.GateKind.means table.now (S.Store.means self.now.below).lines gate }
     {
-        if self.table.lines() == self.below.lines() {
-            S::Kind::renamed(gate, self.table.new_lines())
-        } else {
-            gate
-        }
-    }
-
-    // A gate of the mount as it is written below.
-    fn written(&self, gate: Gate) -> Gate
-        ensures { result ≡ shown_gate S.Kind.GateKind.means self.now.table.lines self.now.table.old (S.Store.means self.now.below).lines gate }
-    {
-        if self.table.lines() == self.below.lines() {
-            S::Kind::renamed(gate, self.table.old_lines())
+        if table.len() == self.below.lines() as usize {
+            S::Kind::renamed(gate, table)
         } else {
             gate
         }
@@ -71,9 +58,9 @@ impl<S: Store> Renamed<S> {
 impl<S: Store> Store for Renamed<S> {
     type Kind = S::Kind;
 
-    ghost means = { λ s. renamed_view S.Kind.GateKind.means s.table.lines s.table.new (S.Store.means s.below) };
+    ghost means = { λ s. renamed_view S.Kind.GateKind.means (contents s.table.new) (S.Store.means s.below) };
 
-    ghost bounded = { λ s. renamed_bounded S.Kind.GateKind.means s.table.lines s.table.new (S.Store.means s.below) (S.Store.bounded s.below) };
+    ghost bounded = { λ s. renamed_bounded S.Kind.GateKind.means (contents s.table.new) (S.Store.means s.below) (S.Store.bounded s.below) };
 
     fn lines(&self) -> u8 {
         self.below.lines()
@@ -88,40 +75,28 @@ impl<S: Store> Store for Renamed<S> {
     }
 
     fn read(&self, place: usize) -> Result<Gate, StoreRefusal> {
-        if place >= self.below.count() {
-            return Err(StoreRefusal::NoSuchPlace);
-        }
+        check_place(place, self.below.count())?;
         let gate = self.below.read(place)?;
-        Ok(self.shown(gate))
+        Ok(self.through(self.table.new_lines(), gate))
     }
 
     fn overwrite(&mut self, place: usize, gate: Gate) -> Result<(), StoreRefusal> {
-        if place >= self.below.count() {
-            return Err(StoreRefusal::NoSuchPlace);
-        }
-        if !S::Kind::is_well_formed(gate, self.below.lines()) {
-            return Err(StoreRefusal::Gate(GateRefusal::NotWellFormed));
-        }
-        let written = self.written(gate);
+        check_place(place, self.below.count())?;
+        check_gate::<S::Kind>(gate, self.below.lines())?;
+        let written = self.through(self.table.old_lines(), gate);
         self.below.overwrite(place, written)
     }
 
     fn insert(&mut self, place: usize, gate: Gate) -> Result<(), StoreRefusal> {
-        if place > self.below.count() {
-            return Err(StoreRefusal::NoSuchPlace);
-        }
-        if !S::Kind::is_well_formed(gate, self.below.lines()) {
-            return Err(StoreRefusal::Gate(GateRefusal::NotWellFormed));
-        }
-        let written = self.written(gate);
+        check_place_before(place, self.below.count())?;
+        check_gate::<S::Kind>(gate, self.below.lines())?;
+        let written = self.through(self.table.old_lines(), gate);
         self.below.insert(place, written)
     }
 
     fn remove(&mut self, place: usize) -> Result<Gate, StoreRefusal> {
-        if place >= self.below.count() {
-            return Err(StoreRefusal::NoSuchPlace);
-        }
+        check_place(place, self.below.count())?;
         let gate = self.below.remove(place)?;
-        Ok(self.shown(gate))
+        Ok(self.through(self.table.new_lines(), gate))
     }
 }

@@ -3,8 +3,9 @@ ghost use Rattle.std.specs.Prelude.{◌≡◌};
 ghost use Rattle.stores.specs.MountFacts.{reversed_bounded};
 ghost use Rattle.stores.specs.Mounts.{reversed};
 
+use super::checks::{check_place, check_place_before};
 use super::{Store, StoreRefusal};
-use gates::{Gate, GateKind, GateRefusal};
+use gates::{Gate, GateKind, check_gate};
 
 // Shows the store below backward; what it shows undoes what the store below does.
 #[derive(Drop)]
@@ -24,8 +25,7 @@ impl<S: Store> Reversed<S> {
     pub fn into_below(self) -> S
         ensures { result ≡ self.below }
     {
-        let Reversed { below } = self;
-        below
+        self.below
     }
 }
 
@@ -50,41 +50,29 @@ impl<S: Store> Store for Reversed<S> {
 
     fn read(&self, place: usize) -> Result<Gate, StoreRefusal> {
         let count = self.below.count();
-        if place >= count {
-            return Err(StoreRefusal::NoSuchPlace);
-        }
+        check_place(place, count)?;
         let gate = self.below.read(count - 1 - place)?;
         Ok(S::Kind::inverse(gate))
     }
 
     fn overwrite(&mut self, place: usize, gate: Gate) -> Result<(), StoreRefusal> {
         let count = self.below.count();
-        if place >= count {
-            return Err(StoreRefusal::NoSuchPlace);
-        }
-        if !S::Kind::is_well_formed(gate, self.below.lines()) {
-            return Err(StoreRefusal::Gate(GateRefusal::NotWellFormed));
-        }
+        check_place(place, count)?;
+        check_gate::<S::Kind>(gate, self.below.lines())?;
         self.below
             .overwrite(count - 1 - place, S::Kind::inverse(gate))
     }
 
     fn insert(&mut self, place: usize, gate: Gate) -> Result<(), StoreRefusal> {
         let count = self.below.count();
-        if place > count {
-            return Err(StoreRefusal::NoSuchPlace);
-        }
-        if !S::Kind::is_well_formed(gate, self.below.lines()) {
-            return Err(StoreRefusal::Gate(GateRefusal::NotWellFormed));
-        }
+        check_place_before(place, count)?;
+        check_gate::<S::Kind>(gate, self.below.lines())?;
         self.below.insert(count - place, S::Kind::inverse(gate))
     }
 
     fn remove(&mut self, place: usize) -> Result<Gate, StoreRefusal> {
         let count = self.below.count();
-        if place >= count {
-            return Err(StoreRefusal::NoSuchPlace);
-        }
+        check_place(place, count)?;
         let gate = self.below.remove(count - 1 - place)?;
         Ok(S::Kind::inverse(gate))
     }

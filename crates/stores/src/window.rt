@@ -3,8 +3,9 @@ ghost use Rattle.std.specs.Prelude.{◌≡◌};
 ghost use Rattle.stores.specs.MountFacts.{window_bounded};
 ghost use Rattle.stores.specs.Mounts.{start_in, window, window_made, window_outcome};
 
+use super::checks::{check_place, check_place_before};
 use super::{Store, StoreRefusal};
-use gates::{Gate, GateKind, GateRefusal};
+use gates::{Gate, GateKind, check_gate};
 
 // Shows so many gates of the store below from a place on; it grows and shrinks with its list, and the gates outside it stay.
 #[derive(Drop)]
@@ -31,32 +32,18 @@ impl<S: Store> Window<S> {
         ensures holds { result.below ≡ below }
         ensures shows { window result.start result.size (S.Store.means result.below) ≡ window_made from to (S.Store.means below) }
     {
-        let count = below.count();
-        if from <= to && to <= count {
-            Window {
-                below,
-                start: from,
-                size: to - from,
-            }
-        } else {
-            Window {
-                below,
-                start: 0,
-                size: count,
-            }
-        }
+        let (start, size) = match check_window(&below, from, to) {
+            Ok(()) => (from, to - from),
+            Err(_) => (0, below.count()),
+        };
+        Window { below, start, size }
     }
 
     // The store below, as it is now.
     pub fn into_below(self) -> S
         ensures { result ≡ self.below }
     {
-        let Window {
-            below,
-            start: _,
-            size: _,
-        } = self;
-        below
+        self.below
     }
 
     // The place below where the window begins.
@@ -87,32 +74,21 @@ impl<S: Store> Store for Window<S> {
     }
 
     fn read(&self, place: usize) -> Result<Gate, StoreRefusal> {
-        if place < self.count() {
-            self.below.read(self.first() + place)
-        } else {
-            Err(StoreRefusal::NoSuchPlace)
-        }
+        check_place(place, self.count())?;
+        self.below.read(self.first() + place)
     }
 
     fn overwrite(&mut self, place: usize, gate: Gate) -> Result<(), StoreRefusal> {
-        if place >= self.count() {
-            return Err(StoreRefusal::NoSuchPlace);
-        }
-        if !S::Kind::is_well_formed(gate, self.below.lines()) {
-            return Err(StoreRefusal::Gate(GateRefusal::NotWellFormed));
-        }
+        check_place(place, self.count())?;
+        check_gate::<S::Kind>(gate, self.below.lines())?;
         let first = self.first();
         self.below.overwrite(first + place, gate)
     }
 
     fn insert(&mut self, place: usize, gate: Gate) -> Result<(), StoreRefusal> {
         let size = self.count();
-        if place > size {
-            return Err(StoreRefusal::NoSuchPlace);
-        }
-        if !S::Kind::is_well_formed(gate, self.below.lines()) {
-            return Err(StoreRefusal::Gate(GateRefusal::NotWellFormed));
-        }
+        check_place_before(place, size)?;
+        check_gate::<S::Kind>(gate, self.below.lines())?;
         if self.below.count() >= self.below.capacity() {
             return Err(StoreRefusal::Full);
         }
@@ -125,9 +101,7 @@ impl<S: Store> Store for Window<S> {
 
     fn remove(&mut self, place: usize) -> Result<Gate, StoreRefusal> {
         let size = self.count();
-        if place >= size {
-            return Err(StoreRefusal::NoSuchPlace);
-        }
+        check_place(place, size)?;
         let first = self.first();
         let answer = self.below.remove(first + place);
         self.start = first;

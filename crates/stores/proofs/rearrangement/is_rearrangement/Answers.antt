@@ -2,7 +2,7 @@ use Rattle.std.proofs.Common.{◌+◌, Bool, not, ◌&&◌, eqb, ltb, length, ge
 use Rattle.std.proofs.lemmas.Bool.{eq-eqb, le-leb, lt-ltb, le-ltb, and_from, and_left, and_right, not_from_true, not_from_false}
 use Rattle.gates.specs.Lines.{width, bit}
 use Rattle.stores.specs.Mounts.{completes}
-use Rattle.stores.proofs.Rearranging.{completes_stops, completes_goes_on, completes_ends, no_rearrangement}
+use Rattle.stores.proofs.Rearranging.{all_listed, completes_stops, completes_goes_on, completes_ends, no_rearrangement}
 use Rattle.stores.proofs.rearrangement.is_rearrangement.Goals as goal
 use Rattle.stores.proofs.rearrangement.is_rearrangement.Goals.{then-line-lines-via-then-line-lines, then-line-lines-via-else-line-lines+then-has_line}
 
@@ -33,6 +33,6 @@ pub returns : goal.returns
 returns c =
     let t = c.args.table.now in
     let n = c.args.lines in
-    c.has_all_lines.ensures ∙ sym (completes_ends n c.loop-line.seen t c.loop-line.line-index c.loop-line-test.false) ∙ c.loop-line.invariant
-    ∙ sym (ap (λ (b : Bool). b && (eqb (length t) n && completes n 0 t)) (le-leb n width c.if-lines-gt32.false)
+    c.has_all_lines.ensures ∙ all_listed n (bit c.loop-line.seen) ∙ sym (completes_ends n c.loop-line.seen t c.loop-line.line-index c.loop-line-test.false) ∙ c.loop-line.invariant
+    ∙ sym (ap (λ (b : Bool). b && (eqb (length t) n && completes n 0 t)) (le-leb n width c.if-lines-gt-WIDTH.false)
     ∙ ap (λ (b : Bool). b && completes n 0 t) (eq-eqb (length t) n c.if-table-lines.false))

@@ -1,68 +1,57 @@
-use Rattle.std.proofs.Common.{◌≡◌, ℕ, ◌+◌, ◌<◌, ◌≤◌, Bool, true, cond, ◌&&◌, eqb, leb, List, [], ◌∷◌, ◌++◌, map, length, get_or, take, sym, refl, ap, ◌∙◌, ap₂, arith}
-use Rattle.std.proofs.lemmas.List.{length-set, take_more, take_more_set, take_all, map_push}
-use Rattle.std.proofs.lemmas.Bool.{and_parts, eqb-true, leb-true}
-use Rattle.gates.specs.Lines.{width, every_below, counted}
-use Rattle.stores.specs.Mounts.{completes, rearranges, place_of, inverse_of}
-use Rattle.stores.proofs.Rearranging.{counted_more}
+use Rattle.std.proofs.Common.{◌≡◌, ℕ, ◌+◌, ◌<◌, Bool, true, cond, List, [], ◌∷◌, ◌++◌, map, length, Option, sym, ap, ◌∙◌, subst, ap₂, arith}
+use Rattle.std.specs.Prelude.{unwrap_or}
+use lib.ListN.{length-map}
+use Rattle.std.proofs.lemmas.List.{map_push, take_all}
+use Rattle.std.proofs.lemmas.Bool.{lt-ltb}
+use Rattle.fixed_list.specs.Lists.{contents}
+use Rattle.gates.specs.Lines.{counted}
+use Rattle.gates.specs.ControlSets.{unmoved_table}
+use Rattle.stores.specs.Mounts.{rearranges, inverse_of, place_of}
+use Rattle.stores.proofs.Rearranging.{counted_more, none_rearranged, place_found, sized, taken}
 use Rattle.stores.proofs.rearrangement.Rearrangement.new.Goals as goal
 
 pub invariant_of-result : goal.invariant_of-result
-unfolding every_below
-invariant_of-result c = record { sound = refl; inverse = refl }
-
--- a rearrangement has as many entries as there are lines, and there are few
-sized : (n : ℕ) (t : List ℕ) → true ≡ rearranges n t → (length t ≡ n) × (n ≤ width)
-sized n t h =
-    let parts = and_parts (leb n width) (eqb (length t) n && completes n 0 t) (sym h) in
-    (eqb-true (length t) n (and_parts (eqb (length t) n) (completes n 0 t) parts.1).0, leb-true n width parts.0)
-
-pub find_place-requires : goal.find_place-requires
-find_place-requires c = let s = sized c.args.lines c.args.table.now c.if-not-is_rearrangement.ensures in omega (arith, s.0, s.1)
+invariant_of-result c = record {
+  sound = subst (λ (t : List ℕ). rearranges (length t) t ≡ true) (sym c.new-new.ensures) none_rearranged;
+  inverse = c.new-old.ensures ∙ sym (ap (λ (t : List ℕ). inverse_of (length t) t) c.new-new.ensures);
+}
 
 pub loop-line-preserved : goal.loop-line-preserved
 loop-line-preserved c =
     let t = c.args.table.now in
     let i = c.loop-line.line in
-    let s = sized c.args.lines t c.if-not-is_rearrangement.ensures in
-    let new = c.loop-line.new in
-    let old = c.loop-line.old in
-    let inv = c.loop-line.invariant in
-    let in-new : i < length new = omega (arith, inv.0, c.loop-line-test.true, s.1) in
-    let in-old : i < length old = omega (arith, inv.1, c.loop-line-test.true, s.1) in
-    let in_table : i < length t = omega (arith, c.loop-line-test.true, s.0) in (
-      length-set new i (get_or t i 0) ∙ inv.0,
-      length-set old i c.find_place.result ∙ inv.1,
-      take_more_set new i (get_or t i 0) in-new ∙ ap (λ (r : List ℕ). r ++ get_or t i 0 ∷ []) inv.2 ∙ sym (take_more t i 0 in_table),
-      take_more_set old i c.find_place.result in-old
-          ∙ ap₂ (λ (r : List ℕ) (x : ℕ). r ++ x ∷ []) inv.3 c.find_place.ensures
-          ∙ sym (map_push (place_of t) (counted 0 i) i)
-          ∙ ap (map (place_of t)) (ap (λ (n : ℕ). counted 0 i ++ n ∷ []) (let e : i ≡ 0 + i = omega arith in e) ∙ sym (counted_more 0 i)),
-    )
-
--- the whole table has been copied
-copied : (n i : ℕ) (t new : List ℕ) → i ≡ n → length t ≡ n → take i new ≡ take i t → take n new ≡ t
-copied n i t new end long same = ap (λ (j : ℕ). take j new) (sym end) ∙ same ∙ ap (λ (j : ℕ). take j t) end ∙ take_all n t (omega arith)
+    let old = contents c.loop-line.old in
+    let size = sized c.args.lines t c.if-not-is_rearrangement.ensures in
+    let long : length old ≡ i = ap length c.loop-line.invariant ∙ length-map (counted 0 i) (place_of t) ∙ (unmoved_table i (omega (arith, size.1, c.loop-line-test.true))).long in
+    let room : length old < 32 = omega (arith, long, size.1, c.loop-line-test.true) in
+    let place : c.unwrap_or-place.result ≡ place_of t i = c.unwrap_or-place.ensures ∙ ap (λ (o : Option ℕ). unwrap_or o (length t)) c.find_place.ensures ∙ place_found t i in
+    c.push.ensures.leaves
+    ∙ ap (λ (b : Bool). cond b (old ++ c.unwrap_or-place.result ∷ []) old) (lt-ltb (length old) 32 room)
+    ∙ ap₂ (λ (r : List ℕ) (x : ℕ). r ++ x ∷ []) c.loop-line.invariant place
+    ∙ sym (map_push (place_of t) (counted 0 i) i)
+    ∙ ap (map (place_of t)) (ap (λ (n : ℕ). counted 0 i ++ n ∷ []) (let e : i ≡ 0 + i = omega arith in e) ∙ sym (counted_more 0 i))
 
 pub invariant_of-result-2 : goal.invariant_of-result-2
 invariant_of-result-2 c =
     let t = c.args.table.now in
     let n = c.args.lines in
-    let i = c.loop-line.line in
     let is = c.if-not-is_rearrangement.ensures in
-    let end : i ≡ n = omega (arith, c.loop-line-test.false, c.loop-line.auto.line-end) in
-    let same = copied n i t c.loop-line.new end (sized n t is).0 c.loop-line.invariant.2 in
+    let new = c.of-new.ensures ∙ taken n t is in
+    let end : c.loop-line.line ≡ n = omega (arith, c.loop-line-test.false, c.loop-line.auto.line-end) in
     record {
-      sound = ap (rearranges n) same ∙ sym is;
-      inverse = ap (λ (j : ℕ). take j c.loop-line.old) (sym end) ∙ c.loop-line.invariant.3 ∙ ap (λ (j : ℕ). map (place_of t) (counted 0 j)) end ∙ ap (inverse_of n) (sym same);
+      sound = ap₂ rearranges (ap length new ∙ (sized n t is).0) new ∙ sym is;
+      inverse = c.loop-line.invariant ∙ ap (λ (i : ℕ). map (place_of t) (counted 0 i)) end ∙ sym (ap₂ inverse_of (ap length new ∙ (sized n t is).0) new);
     }
 
-pub returns : goal.returns
-returns c =
+pub returns-clause-on : goal.returns-clause-on
+returns-clause-on c =
     let t = c.args.table.now in
     let n = c.args.lines in
     let is = c.if-not-is_rearrangement.ensures in
-    let end : c.loop-line.line ≡ n = omega (arith, c.loop-line-test.false, c.loop-line.auto.line-end) in
-    record {
-      on = ap (λ (b : Bool). cond b n 0) is;
-      value = copied n c.loop-line.line t c.loop-line.new end (sized n t is).0 c.loop-line.invariant.2 ∙ ap (λ (b : Bool). cond b t []) is;
-    }
+    ap length (c.of-new.ensures ∙ taken n t is) ∙ (sized n t is).0 ∙ ap (λ (b : Bool). cond b n 0) is
+
+pub returns-clause-value : goal.returns-clause-value
+returns-clause-value c =
+    let t = c.args.table.now in
+    let is = c.if-not-is_rearrangement.ensures in
+    c.of-new.ensures ∙ taken c.args.lines t is ∙ ap (λ (b : Bool). cond b t []) is
