@@ -2,7 +2,7 @@
 use Rattle.std.proofs.Common.{◌≡◌, ℕ, suc, ◌+◌, ◌-◌, ◌<◌, ◌≤◌, ltb, List, [], ◌∷◌, ◌++◌, length, get_or, take, drop, set, sym, refl, ap, ◌∙◌, ap₂, arith}
 use Rattle.std.specs.List.{copy_within, insert, remove}
 use Rattle.std.proofs.lemmas.List.Edits.{drop-paste, length-paste, take-paste}
-use Rattle.std.proofs.lemmas.List.{append_assoc, length-append, length-drop, length-set, length-take-le, take_at, drop_at, take-set-le, take_more, take_more_set, drop-set, drop-set-lt, drop_more, drop-drop, drop-set-add, drop-take, take-append-drop, take-append-le, take-take, get_or_append_left, get_or-append_right, get_or-take, get_or-drop, set-append_left, set-append_right}
+use Rattle.std.proofs.lemmas.List.{append_assoc, length-append, length-drop, length-set, length-take-le, take_at, drop_at, take-set-le, take_more_set, drop-set-lt, drop-drop, drop-set-add, drop-take, take-append-drop, take-append-le, take-take, get_or_append_left, get_or-append_right, get_or-take, get_or-drop, set-append_left, set-append_right}
 use Rattle.gates.specs.declared.gate.Gate.{Gate}
 use Rattle.std.proofs.lemmas.Bool.{cond_both, ltb-true, ltb-false}
 use Rattle.stores.specs.Memory.{around_gap, record_of, in_memory, GapMoved}

@@ -96,16 +96,10 @@ through_full V m low high same false = (refl, refl)
 
 -- what a mount makes of a call on the store below, which has meaning m and is seen as V m, and as V of what the call leaves
 module _ (k : KindMeaning) (V : StoreMeaning → StoreMeaning) (m : StoreMeaning) (p q : ℕ) where
-  pub remove_through : (f : Gate → Gate) → p < length (V m).gates → q < length m.gates → at (V m) p ≡ f (at m q)
-      → V (with_gates m (remove m.gates q)) ≡ with_gates (V m) (remove (V m).gates p) → (y : Gate)
-      → ◌≡◌ {A = Result Gate StoreRefusal} (Ok y) (answer (remove_outcome m q))
-      → (◌≡◌ {A = Result Gate StoreRefusal} (Ok (f y)) (answer (remove_outcome (V m) p))) × (V (after m (remove_outcome m q)) ≡ after (V m) (remove_outcome (V m) p))
-  remove_through f here there same list y told =
-      let below = remove_ok m q there in
-      let above = remove_ok (V m) p here in
-      let is : ◌≡◌ {A = Result Gate StoreRefusal} (Ok y) (Ok (at m q)) = told ∙ ap answer below in
-      let one : y ≡ at m q = cc in
-      (ap (λ (z : Gate). Ok (f z)) one ∙ ap Ok (sym same) ∙ sym (ap answer above), ap (λ (o : Outcome Gate). V (after m o)) below ∙ list ∙ sym (ap (after (V m)) above))
+  pub remove_through : p < length (V m).gates → q < length m.gates → V (with_gates m (remove m.gates q)) ≡ with_gates (V m) (remove (V m).gates p)
+      → V (after m (remove_outcome m q)) ≡ after (V m) (remove_outcome (V m) p)
+  remove_through here there list =
+      ap (λ (o : Outcome Gate). V (after m o)) (remove_ok m q there) ∙ list ∙ sym (ap (after (V m)) (remove_ok (V m) p here))
 
   module _ (y z : Gate) (formed : Formed k (V m).lines y) (below-formed : Formed k m.lines z) where
     pub overwrite_through : p < length (V m).gates → q < length m.gates → V (with_gates m (set m.gates q z)) ≡ with_gates (V m) (set (V m).gates p y)

@@ -1,5 +1,5 @@
 -- The lists at the front of records after an edit.
-use Rattle.std.proofs.Common.{◌≡◌, ℕ, suc, ◌+◌, ◌-◌, ◌<◌, ◌≤◌, Bool, cond, List, ◌∷◌, ◌++◌, length, [], get_or, take, drop, set, sym, ap, ◌∙◌, ap₂, arith}
+use Rattle.std.proofs.Common.{◌≡◌, ℕ, ◌+◌, ◌-◌, ◌<◌, ◌≤◌, Bool, cond, List, ◌∷◌, ◌++◌, length, [], get_or, take, drop, set, sym, ap, ◌∙◌, ap₂, arith}
 use Rattle.std.specs.List.{copy_within, insert, remove}
 use Rattle.std.proofs.lemmas.List.{append_assoc, drop-set-lt, drop-take, length-drop, length-take-le, set_at, take-take, take_at, take_more}
 use Rattle.std.proofs.lemmas.List.Edits.{drop-paste, length-remove, take-paste}
@@ -69,4 +69,3 @@ module _ {X : Type 0} (xs : List X) (n : ℕ) where
 
     pub front_removed : take (n - 1) (remove (take n xs) p ++ drop (n - 1) xs) ≡ remove (take n xs) p
     front_removed = take_at (remove (take n xs) p) (drop (n - 1) xs) (n - 1) short
-

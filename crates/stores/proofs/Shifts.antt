@@ -1,6 +1,6 @@
 -- Records that move by one place.
 use Rattle.std.proofs.Common.{◌≡◌, ℕ, zero, suc, ◌<◌, ◌≤◌, List, [], ◌∷◌, ◌++◌, length, get_or, take, drop, set, refl, ap, arith}
-use Rattle.std.specs.List.{insert, remove}
+use Rattle.std.specs.List.{remove}
 
 -- the records behind place p, up to place `at`, have moved down by one
 abbrev pub lowered : {X : Type 0} → List X → ℕ → ℕ → List X

@@ -23,7 +23,7 @@ impl From<GateRefusal> for StoreRefusal {
     ghost from_gives = { λ refusal given. given ≡ RefusedGate refusal };
 
     fn from(refusal: GateRefusal) -> StoreRefusal {
-        StoreRefusal::Gate(refusal)
+        Self::Gate(refusal)
     }
 }
 

@@ -93,19 +93,19 @@ impl<S: Store> Store for Window<S> {
             return Err(StoreRefusal::Full);
         }
         let first = self.first();
-        let answer = self.below.insert(first + place, gate);
+        self.below.insert(first + place, gate)?;
         self.start = first;
         self.size = size + 1;
-        answer
+        Ok(())
     }
 
     fn remove(&mut self, place: usize) -> Result<Gate, StoreRefusal> {
         let size = self.count();
         check_place(place, size)?;
         let first = self.first();
-        let answer = self.below.remove(first + place);
+        let gate = self.below.remove(first + place)?;
         self.start = first;
         self.size = size - 1;
-        answer
+        Ok(gate)
     }
 }

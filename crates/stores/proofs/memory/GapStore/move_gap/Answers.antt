@@ -1,4 +1,4 @@
-use Rattle.std.proofs.Common.{◌≡◌, ℕ, ◌+◌, ◌-◌, ◌≤◌, List, ap, ◌∙◌, subst, sym, arith}
+use Rattle.std.proofs.Common.{◌+◌, ◌-◌, List, ap, ◌∙◌, subst, sym, arith}
 use Rattle.std.specs.List.{copy_within}
 use Rattle.gates.specs.declared.gate.Gate.{Gate}
 use Rattle.stores.specs.Memory.{GapMoved}

@@ -1,6 +1,7 @@
-use Rattle.std.proofs.Common.{◌≡◌, ℕ, ◌≤◌, Bool, true, false, cond, List, [], map, take, refl, ap, ◌∙◌, ap₂, arith}
+use Rattle.std.proofs.Common.{◌≡◌, ℕ, ◌≤◌, Bool, true, false, cond, List, [], length, map, ap, ◌∙◌, ap₂, arith}
 use Rattle.std.proofs.lemmas.List.{map-id}
 use Rattle.std.proofs.lemmas.Bool.{eq-eqb, ne_eqb}
+use Rattle.fixed_list.specs.Lists.{contents}
 use Rattle.gates.specs.declared.gate.Gate.{Gate}
 use Rattle.gates.specs.Kinds.{KindMeaning}
 use Rattle.stores.specs.Stores.{StoreMeaning, with_gates}
@@ -8,24 +9,20 @@ use Rattle.stores.specs.Mounts.{renamed_view, renamed_by, rearranges}
 use Rattle.stores.proofs.renamed.Renamed.new.Goals as goal
 
 -- the mount that is made, by whether the table is a rearrangement
-made : (k : KindMeaning) (m : StoreMeaning) (n : ℕ) (new table : List ℕ) (b : Bool) → 1 ≤ m.lines → n ≡ cond b m.lines 0 → take n new ≡ cond b table []
-    → renamed_view k n new m ≡ cond b (renamed_by k table m) m
-made k m n new table true some on value =
-    ap₂ (λ (x : Bool) (t : List ℕ). with_gates m (map (λ (g : Gate). cond x (k.renamed t g) g) m.gates)) (eq-eqb n m.lines on) value
-made k m n new table false some on value =
-    ap (λ (x : Bool). with_gates m (map (λ (g : Gate). cond x (k.renamed (take n new) g) g) m.gates)) (ne_eqb n m.lines (λ e. omega arith))
+made : (k : KindMeaning) (m : StoreMeaning) (new table : List ℕ) (b : Bool) → 1 ≤ m.lines → length new ≡ cond b m.lines 0 → new ≡ cond b table []
+    → renamed_view k new m ≡ cond b (renamed_by k table m) m
+made k m new table true some on value =
+    ap₂ (λ (x : Bool) (t : List ℕ). with_gates m (map (λ (g : Gate). cond x (k.renamed t g) g) m.gates)) (eq-eqb (length new) m.lines on) value
+made k m new table false some on value =
+    ap (λ (x : Bool). with_gates m (map (λ (g : Gate). cond x (k.renamed new g) g) m.gates)) (ne_eqb (length new) m.lines (λ e. omega arith))
     ∙ ap (with_gates m) (map-id m.gates)
 
-pub returns : goal.returns
-returns g c =
+pub returns-clause-shows : goal.returns-clause-shows
+returns-clause-shows g c =
     let k = g.S.Kind.GateKind.means in
     let m = g.S.Store.means c.args.below in
     let t = c.args.table.now in
-    let r = c.new.result in
-    record {
-      holds = refl;
-      shows =
-          made k m r.lines r.new t (rearranges m.lines t) (g.S.Store.bounded c.args.below).some_line
-          (c.new.ensures.on ∙ ap (λ (l : ℕ). cond (rearranges l t) l 0) c.lines-lines.ensures)
-          (c.new.ensures.value ∙ ap (λ (l : ℕ). cond (rearranges l t) t []) c.lines-lines.ensures);
-    }
+    let made_of = c.new-table.ensures in
+    made k m (contents c.new-table.result.new) t (rearranges m.lines t) (g.S.Store.bounded c.args.below).some_line
+    (made_of.on ∙ ap (λ (l : ℕ). cond (rearranges l t) l 0) c.lines.ensures)
+    (made_of.value ∙ ap (λ (l : ℕ). cond (rearranges l t) t []) c.lines.ensures)

@@ -1,54 +1,32 @@
-use Rattle.std.proofs.Common.{◌≡◌, ℕ, ◌≤◌, ltb, length, sym, ap, ◌∙◌, subst, arith}
+use Rattle.std.proofs.Common.{◌≡◌, ℕ, ◌≤◌, ltb, List, length, sym, ap, ◌∙◌, subst, arith}
 use lib.ListN.{length-map}
+use Rattle.fixed_list.specs.Lists.{contents}
 use Rattle.gates.specs.Kinds.{Formed}
-use Rattle.stores.specs.Stores.{answer, after, with_gates}
+use Rattle.stores.specs.Stores.{with_gates}
 use Rattle.stores.specs.Mounts.{shown_gate, renamed_view}
 use Rattle.stores.proofs.Rearranging.{written_back, inserted_map}
-use Rattle.stores.proofs.Outcomes.{insert_past, insert_unformed, insert_through}
+use Rattle.stores.proofs.Outcomes.{place_before_told, gate_told, insert_through}
 use Rattle.stores.proofs.renamed.RenamedStore.insert.Goals as goal
-
-pub returns-then-place-count : goal.returns-then-place-count
-returns-then-place-count g c =
-    let k = g.S.Kind.GateKind.means in
-    let s = c.args.self.now in
-    let m = g.S.Store.means s.below in
-    let V = renamed_view k s.table.lines s.table.new in
-    let f = shown_gate k s.table.lines s.table.new m.lines in
-    let p = c.args.place in
-    let long = length-map m.gates f in
-    let no = insert_past (V m) p k c.args.gate (omega (arith, long, c.if-place-count.true, c.count.ensures)) in
-    record { answers = sym (ap answer no); leaves = sym (ap (after (V m)) no) }
-
-pub returns-then-not-is_well_formed : goal.returns-then-not-is_well_formed
-returns-then-not-is_well_formed g c =
-    let k = g.S.Kind.GateKind.means in
-    let s = c.args.self.now in
-    let m = g.S.Store.means s.below in
-    let V = renamed_view k s.table.lines s.table.new in
-    let f = shown_gate k s.table.lines s.table.new m.lines in
-    let p = c.args.place in
-    let long = length-map m.gates f in
-    let no-form = sym c.if-not-is_well_formed.ensures in
-    let no = insert_unformed (V m) p k c.args.gate (omega (arith, long, c.if-place-count.false, c.count.ensures)) (ap (λ (n : ℕ). k.form n c.args.gate) (sym c.lines.ensures) ∙ no-form) in
-    record { answers = sym (ap answer no); leaves = sym (ap (after (V m)) no) }
 
 pub returns : goal.returns
 returns g c =
     let k = g.S.Kind.GateKind.means in
     let s = c.args.self.now in
     let m = g.S.Store.means s.below in
-    let V = renamed_view k s.table.lines s.table.new in
-    let f = shown_gate k s.table.lines s.table.new m.lines in
+    let new = contents s.table.new in
+    let V = renamed_view k new in
+    let f = shown_gate k new m.lines in
     let p = c.args.place in
     let long = length-map m.gates f in
-    let y = c.args.gate in
-    let z = c.written-written.result in
     let laws = g.met.S.Kind.GateKind.lawful in
-    let formed : Formed k m.lines y = ap (λ (n : ℕ). k.form n y) (sym c.lines.ensures) ∙ sym c.if-not-is_well_formed.ensures in
-    let back = written_back laws s.table.lines s.table.new s.table.old s.table.sound s.table.inverse m.lines y formed in
-    let below-formed : Formed k m.lines z = subst (Formed k m.lines) (sym c.written-written.ensures) back.0 in
-    let same : f z ≡ y = ap f c.written-written.ensures ∙ back.1 in
-    let le : p ≤ length m.gates = omega (arith, c.if-place-count.false, c.count.ensures) in
+    let y = c.args.gate in
+    let z = c.through-written.result in
+    let formed : Formed k m.lines y = ap (λ (l : ℕ). k.form l y) (sym c.lines.ensures) ∙ gate_told k c.lines.result y c.in_ok-check_gate.ensures in
+    let back = written_back laws new (contents s.table.old) s.table.sound s.table.inverse m.lines y formed in
+    let is = c.through-written.ensures ∙ ap (λ (t : List ℕ). shown_gate k t m.lines y) c.old_lines.ensures in
+    let below-formed : Formed k m.lines z = subst (Formed k m.lines) (sym is) back.0 in
+    let same : f z ≡ y = ap f is ∙ back.1 in
+    let le : p ≤ length m.gates = omega (arith, place_before_told p c.count.result c.in_ok-check_place_before.ensures, c.count.ensures) in
     let both =
     insert_through k V m p p y z formed below-formed (omega (arith, le, long)) le (ap (λ (n : ℕ). ltb n m.capacity) (sym long))
     (ap (with_gates m) (inserted_map f m.gates p y z same)) in

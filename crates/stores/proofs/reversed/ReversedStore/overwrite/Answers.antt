@@ -1,49 +1,29 @@
 use Rattle.std.proofs.Common.{◌≡◌, ℕ, ◌-◌, ◌<◌, length, sym, ap, ◌∙◌, subst, arith}
 use Rattle.gates.specs.Controls.{gate}
 use Rattle.gates.specs.Kinds.{Formed}
-use Rattle.stores.specs.Stores.{overwrite_outcome, answer, after, with_gates}
+use Rattle.stores.specs.Stores.{overwrite_outcome, after, with_gates}
 use Rattle.stores.specs.Mounts.{reversed}
 use Rattle.stores.specs.MountFacts.{backward_long}
 use Rattle.stores.proofs.Backward.{set_backward}
-use Rattle.stores.proofs.Outcomes.{overwrite_past, overwrite_unformed, overwrite_through}
+use Rattle.stores.proofs.Outcomes.{place_told, gate_told, overwrite_through}
 use Rattle.stores.proofs.reversed.ReversedStore.overwrite.Goals as goal
 
-pub returns-then-place-count : goal.returns-then-place-count
-returns-then-place-count g c =
+pub returns-clause-leaves : goal.returns-clause-leaves
+returns-clause-leaves g c =
     let k = g.S.Kind.GateKind.means in
+    let laws = g.met.S.Kind.GateKind.lawful in
     let m = g.S.Store.means c.args.self.now.below in
     let p = c.args.place in
-    let long = backward_long k m.gates in
-    let no = overwrite_past (reversed k m) p k c.args.gate (omega (arith, long, c.if-place-count.true, c.count-count.ensures)) in
-    record { answers = sym (ap answer no); leaves = sym (ap (after (reversed k m)) no) }
-
-pub returns-then-not-is_well_formed : goal.returns-then-not-is_well_formed
-returns-then-not-is_well_formed g c =
-    let k = g.S.Kind.GateKind.means in
-    let m = g.S.Store.means c.args.self.now.below in
-    let p = c.args.place in
-    let long = backward_long k m.gates in
-    let no-form = sym c.if-not-is_well_formed.ensures in
-    let no = overwrite_unformed (reversed k m) p k c.args.gate (omega (arith, long, c.if-place-count.false, c.count-count.ensures)) (ap (λ (n : ℕ). k.form n c.args.gate) (sym c.lines.ensures) ∙ no-form) in
-    record { answers = sym (ap answer no); leaves = sym (ap (after (reversed k m)) no) }
-
-pub returns : goal.returns
-returns g c =
-    let k = g.S.Kind.GateKind.means in
-    let m = g.S.Store.means c.args.self.now.below in
-    let p = c.args.place in
-    let long = backward_long k m.gates in
     let y = c.args.gate in
     let z = c.inverse.result in
-    let laws = g.met.S.Kind.GateKind.lawful in
-    let formed : Formed k m.lines y = ap (λ (n : ℕ). k.form n y) (sym c.lines.ensures) ∙ sym c.if-not-is_well_formed.ensures in
+    let formed : Formed k m.lines y = ap (λ (l : ℕ). k.form l y) (sym c.lines.ensures) ∙ gate_told k c.lines.result y c.in_ok-check_gate.ensures in
     let below-formed : Formed k m.lines z = subst (Formed k m.lines) (sym c.inverse.ensures) (laws.inverse_formed m.lines y formed) in
     let twice : k.inverse z ≡ y = ap k.inverse c.inverse.ensures ∙ laws.inverse_twice m.lines y formed in
-    let lt : p < length m.gates = omega (arith, c.if-place-count.false, c.count-count.ensures) in
+    let lt : p < length m.gates = omega (arith, place_told p c.count-count.result c.in_ok-check_place.ensures, c.count-count.ensures) in
     let q = length m.gates - 1 - p in
-    let place : c.count-count.result - 1 - p ≡ q = ap (λ (n : ℕ). n - 1 - p) c.count-count.ensures in
-    let both = overwrite_through k (reversed k) m p q y z formed below-formed (omega (arith, lt, long)) (omega (arith, lt)) (ap (with_gates m) (set_backward k m.gates p (gate 0 0 0 0) lt y z twice)) in
-    record {
-      answers = c.overwrite.ensures.answers ∙ ap (λ (i : ℕ). answer (overwrite_outcome k m i z)) place ∙ both.0;
-      leaves = ap (reversed k) c.overwrite.ensures.leaves ∙ ap (λ (i : ℕ). reversed k (after m (overwrite_outcome k m i z))) place ∙ both.1;
-    }
+    let both =
+    overwrite_through k (reversed k) m p q y z formed below-formed (omega (arith, lt, backward_long k m.gates)) (omega (arith, lt))
+    (ap (with_gates m) (set_backward k m.gates p (gate 0 0 0 0) lt y z twice)) in
+    ap (reversed k) c.overwrite.ensures.leaves
+    ∙ ap (λ (n : ℕ). reversed k (after m (overwrite_outcome k m (n - 1 - p) z))) c.count-count.ensures
+    ∙ both.1
