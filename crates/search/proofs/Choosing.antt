@@ -3,7 +3,7 @@ use Rattle.std.proofs.Common.{◌≡◌, ℕ, suc, ◌<◌, ◌≤◌, Bool, tru
 use Rattle.std.proofs.lemmas.Bool.{cases_lt, true≢false, false≢true}
 use Rattle.search.specs.declared.policy.Shown.{Shown}
 use Rattle.search.specs.Policy.{PolicyMeaning, TakesFirst, Standing, standing, scan, opening}
-use Rattle.search.specs.Listing.{Passes, FitsKey, StartsFrom, row, listed, Lowest, Searched, Chosen, found_key}
+use Rattle.search.specs.Listing.{Passes, FitsKey, StartsFrom, row, listed, Searched, Chosen, found_key}
 use Rattle.search.specs.declared.key.Key.{Key}
 use Rattle.search.specs.declared.walk.Found.{Found}
 use Rattle.search.specs.Keys.{key_size, number_limit, keyed, held, In, Begins, ShownIn}
@@ -77,10 +77,6 @@ chosen_from rule view Occurs test decides fits first taken kept lowest s =
       nothing = λ empty. s.takes ∙ nothing_of_none rule view os empty;
       occurs = λ k said. chosen_has rule view Occurs os k (all_from_in Occurs os (λ j i. (shown.each j i).1)) (sym s.takes ∙ said);
     }
-
--- a property that holds of the same keys has the same least first number
-pub lowest_like : (P Q : List ℕ → Type 0) (low : ℕ) → ((k : List ℕ) → P k → Q k) → ((k : List ℕ) → Q k → P k) → Lowest P low → Lowest Q low
-lowest_like P Q low to from l = record { below = λ v rest q. l.below v rest (from (v ∷ rest) q); rest = l.rest; there = to (low ∷ l.rest) l.there }
 
 -- what was found has the key that was taken
 pub found_by_map : (P : Key → Found → Type 0) → ((key : Key) (found : Found) → P key found → key ≡ found.key) → (taken : Option Key) (answer : Option Found)

@@ -1,20 +1,15 @@
 -- Sets of numbers below 64.
-use Rattle.std.proofs.Common.{◌≡◌, ◌≢◌, ℕ, zero, suc, ◌-◌, ◌*◌, ◌%◌, ◌^◌, ◌<◌, ◌≤◌, Bool, true, false, cond, not, ◌||◌, eqb, ltb, List, [], ◌∷◌, ◌++◌, sym, refl, ap, ap₂, ◌∙◌, ⊎_elim, arith}
+use Rattle.std.proofs.Common.{◌≡◌, ◌≢◌, ℕ, zero, suc, ◌-◌, ◌*◌, ◌%◌, ◌^◌, ◌<◌, ◌≤◌, Bool, true, false, cond, not, ◌||◌, eqb, ltb, List, [], ◌∷◌, ◌++◌, sym, refl, ap, ap₂, ◌∙◌, ⊎_elim, w64, arith}
 use lib.Bits.{bit_or, bit_xor}
 use lib.Count.{count_trailing_zeros}
+use Rattle.std.proofs.Math.Bool.{or_comm}
 use Rattle.std.proofs.lemmas.Nat.{one_shl, pow_pos}
-use Rattle.std.proofs.lemmas.Bool.{cases_lt, lt-ltb, le-ltb, eq-eqb, ne_eqb, true≢false}
+use Rattle.std.proofs.lemmas.Nat.Bits.{bit_at-trailing_zeros}
+use Rattle.std.proofs.lemmas.Bool.{cases_lt, lt-ltb, le-ltb, eq-eqb, ne_eqb}
 use Rattle.gates.specs.Lines.{bit, inverted_if}
 use Rattle.gates.specs.Members.{bit_above, bit_none}
 use Rattle.gates.proofs.Masks.{bit-bit_or, bit-bit_xor, bit_power, bit_not}
 use Rattle.search.specs.Sets.{numbers_under, numbers_in}
-use Rattle.search.proofs.Zeros.{zeros_set, zeros_clear}
-
-or_comm : (a b : Bool) → (a || b) ≡ (b || a)
-or_comm true true = refl
-or_comm true false = refl
-or_comm false true = refl
-or_comm false false = refl
 
 pub number_added : (set number i : ℕ) → number < 64 → bit (bit_or set ((1 * 2 ^ number) % 2 ^ 64)) i ≡ (eqb i number || bit set i)
 number_added set number i l =
@@ -54,10 +49,15 @@ module _ (set : ℕ) (more : 0 < set) (fits : set < 2 ^ 64) where
   others = bit_xor set ((1 * 2 ^ lowest) % 2 ^ 64)
 
   lowest_there : bit set lowest ≡ true
-  lowest_there = zeros_set 64 set more fits
+  unfolding bit
+  lowest_there = ap (λ (x : ℕ). eqb x 1) (bit_at-trailing_zeros w64 set more fits).1
+
+  lower_clear : (i : ℕ) → i < lowest → bit set i ≡ false
+  unfolding bit
+  lower_clear i l = ap (λ (x : ℕ). eqb x 1) ((bit_at-trailing_zeros w64 set more fits).2 i l)
 
   lowest_below : lowest < 64
-  lowest_below = ⊎_elim (λ (l : lowest < 64). l) (λ (l : 64 ≤ lowest). absurd (true≢false (sym lowest_there ∙ bit_above set 64 lowest fits l))) (cases_lt lowest 64)
+  lowest_below = (bit_at-trailing_zeros w64 set more fits).0
 
   bit_others : (i : ℕ) → bit others i ≡ inverted_if (eqb i lowest) (bit set i)
   bit_others i =
@@ -75,12 +75,12 @@ module _ (set : ℕ) (more : 0 < set) (fits : set < 2 ^ 64) where
   none_set : (n : ℕ) → n ≤ lowest → numbers_under set n ≡ []
   unfolding numbers_under
   none_set zero l = refl
-  none_set (suc n) l = ap₂ (more_by n) (none_set n (omega arith)) (zeros_clear 64 set n (omega arith))
+  none_set (suc n) l = ap₂ (more_by n) (none_set n (omega arith)) (lower_clear n (omega arith))
 
   none_others : (n : ℕ) → n ≤ lowest → numbers_under others n ≡ []
   unfolding numbers_under
   none_others zero l = refl
-  none_others (suc n) l = ap₂ (more_by n) (none_others n (omega arith)) (others_kept n (λ e. omega arith) ∙ zeros_clear 64 set n (omega arith))
+  none_others (suc n) l = ap₂ (more_by n) (none_others n (omega arith)) (others_kept n (λ e. omega arith) ∙ lower_clear n (omega arith))
 
   first_at : (n : ℕ) → n ≡ lowest → numbers_under set (suc n) ≡ lowest ∷ numbers_under others (suc n)
   unfolding numbers_under

@@ -1,4 +1,5 @@
 // Sets of numbers below 64, as a step of the search takes them: number i is in the set where the bit of weight 2^i is 1.
+// A set is a plain `u64`: a struct around it would have to write anew the `&` and `|` by which problems put sets together.
 ghost use Rattle.std.specs.Prelude.{◌≡◌, ℕ, ◌<◌, ◌||◌, ◌==◌, List, nat_lt};
 ghost use Rattle.std.specs.Iterator.{YieldsFirst, item_count};
 ghost use Rattle.gates.specs.Lines.{bit};

@@ -1,4 +1,4 @@
-// Prefixes that the search comes to.
+// Prefixes that the search comes to, and what a problem says of them.
 ghost use Rattle.std.specs.Prelude.{◌≡◌, ◌<◌, [], ◌∷◌, false, length};
 ghost use Rattle.std.specs.Bool.{then_some};
 ghost use Rattle.search.specs.Keys.{key_size, keyed, with_number};

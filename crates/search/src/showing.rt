@@ -10,7 +10,8 @@ use super::candidates::Numbers;
 use super::prefix::Prefix;
 use super::{Key, Policy, Problem, Reply};
 
-// A policy that is shown keys: the last one taken, and whether the policy closed.
+// A policy that is shown keys: the last one taken, and whether the policy closed. The clauses `same` say that it stays the
+// caller's policy.
 #[derive(Drop)]
 pub(crate) struct Showing<'a, P: Policy> {
     pub(crate) policy: &'a mut P,

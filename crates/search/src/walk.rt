@@ -15,6 +15,7 @@ pub struct Found {
 }
 
 // What is searched for: the keys that are `occurring`, which `test` decides.
+// A method is handed the parts of a prefix one by one: most use one or two, which a struct would spell `prefix.key`.
 pub trait Problem {
     // What is worked out once for a first number, and serves all keys that begin with it.
     type Start: Drop;
