@@ -1,10 +1,11 @@
 -- From a search of all keys to its answer.
-use Rattle.std.proofs.Common.{◌≡◌, ℕ, suc, ◌<◌, ◌≤◌, Bool, true, false, List, [], ◌∷◌, is_some, Some, None, Decides, Option, sym, refl, ap, ◌∙◌, subst, ⊎_elim, arith}
+use Rattle.std.proofs.Common.{◌≡◌, ℕ, suc, ◌<◌, ◌≤◌, Bool, true, false, List, [], ◌∷◌, is_some, Some, None, IsSomeAnd, MatchOption, Decides, Option, sym, refl, ap, ◌∙◌, subst, ⊎_elim, arith}
 use Rattle.std.proofs.lemmas.Bool.{cases_lt, true≢false, false≢true}
 use Rattle.search.specs.declared.policy.Shown.{Shown}
 use Rattle.search.specs.Policy.{PolicyMeaning, TakesFirst, Standing, standing, scan, opening}
-use Rattle.search.specs.Listing.{Passes, FitsKey, StartsFrom, row, listed, Lowest, Searched, Chosen}
+use Rattle.search.specs.Listing.{Passes, FitsKey, StartsFrom, row, listed, Searched, Chosen, found_key}
 use Rattle.search.specs.declared.key.Key.{Key}
+use Rattle.search.specs.declared.walk.Found.{Found}
 use Rattle.search.specs.Keys.{key_size, number_limit, keyed, held, In, Begins, ShownIn}
 use Rattle.search.proofs.Scans.{none_of_none, nothing_of_none, scan_has, chosen_has}
 use Rattle.search.proofs.Ranks.{all_from_in, in_first_row, shown_listed, shown_like}
@@ -77,6 +78,9 @@ chosen_from rule view Occurs test decides fits first taken kept lowest s =
       occurs = λ k said. chosen_has rule view Occurs os k (all_from_in Occurs os (λ j i. (shown.each j i).1)) (sym s.takes ∙ said);
     }
 
--- a property that holds of the same keys has the same least first number
-pub lowest_like : (P Q : List ℕ → Type 0) (low : ℕ) → ((k : List ℕ) → P k → Q k) → ((k : List ℕ) → Q k → P k) → Lowest P low → Lowest Q low
-lowest_like P Q low to from l = record { below = λ v rest q. l.below v rest (from (v ∷ rest) q); rest = l.rest; there = to (low ∷ l.rest) l.there }
+-- what was found has the key that was taken
+pub found_by_map : (P : Key → Found → Type 0) → ((key : Key) (found : Found) → P key found → key ≡ found.key) → (taken : Option Key) (answer : Option Found)
+    → MatchOption taken (answer ≡ None) (λ key. IsSomeAnd answer (P key)) → held taken ≡ found_key answer
+found_by_map P of None answer e = sym (ap found_key e)
+found_by_map P of (Some key) None e = absurd e
+found_by_map P of (Some key) (Some found) e = ap (λ (k : Key). Some (keyed k)) (of key found e)

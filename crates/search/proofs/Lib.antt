@@ -5,7 +5,6 @@ pub mod NumberSets
 pub mod Rows
 pub mod Ranks
 pub mod Unique
-pub mod Zeros
 pub mod Steps
-pub mod Masks
+pub mod Covered
 pub mod Choosing

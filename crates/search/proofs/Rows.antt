@@ -51,11 +51,15 @@ module _ (test : List ℕ → Bool) where
       (λ v _ _. listed_none limit left (prefix ++ v ∷ []) (λ rest e. h (v ∷ rest) (regroup prefix v rest e)))
       ∙ row_nil (λ v. listed test limit left (prefix ++ v ∷ []))
 
-  -- where no key that passes has a number from a up to b next, those add nothing
+  -- where no key that passes has the number v next, it adds nothing
+  pub under_none : (limit left v : ℕ) (prefix : List ℕ) → ((rest : List ℕ) → test (prefix ++ v ∷ rest) ≡ true → ⊥) → listed test limit left (prefix ++ v ∷ []) ≡ []
+  under_none limit left v prefix without = listed_none limit left (prefix ++ v ∷ []) (λ rest e. without rest (regroup prefix v rest e))
+
+  -- the same of the numbers from a up to b
   pub level_skip : (limit left a b : ℕ) (prefix : List ℕ) → a ≤ b → ((v : ℕ) → a ≤ v → v < b → (rest : List ℕ) → test (prefix ++ v ∷ rest) ≡ true → ⊥) → level limit left b prefix ≡ level limit left a prefix
   level_skip limit left a b prefix l without =
       row_skip (λ v. listed test limit left (prefix ++ v ∷ [])) a b l
-      (λ v p q. listed_none limit left (prefix ++ v ∷ []) (λ rest e. without v p q rest (regroup prefix v rest e)))
+      (λ v p q. under_none limit left v prefix (without v p q))
 
   -- a whole key is listed alone
   pub listed_whole : (limit left : ℕ) (prefix : List ℕ) → ((v : ℕ) (rest : List ℕ) → test (prefix ++ v ∷ rest) ≡ true → ⊥) → alone test prefix ≡ listed test limit left prefix

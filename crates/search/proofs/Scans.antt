@@ -1,5 +1,5 @@
 -- Laws of showing a policy a list.
-use Rattle.std.proofs.Common.{◌≡◌, ℕ, Bool, true, false, List, [], ◌∷◌, ◌++◌, Some, None, Option, refl, ap, ◌∙◌, subst, arith}
+use Rattle.std.proofs.Common.{◌≡◌, ℕ, Bool, true, false, List, [], ◌∷◌, ◌++◌, Some, None, Option, sym, refl, ap, ◌∙◌, subst, arith}
 use Rattle.std.specs.List.{AllByRecursion}
 use Rattle.search.specs.declared.policy.Shown.{Shown}
 use Rattle.search.specs.declared.policy.Reply.{Reply}
@@ -22,6 +22,11 @@ module _ {X : Type 0} (rule : PolicyMeaning) (view : X → Shown) where
   unfolding scan
   scan_closed kept taken [] = refl
   scan_closed kept taken (x ∷ xs) = scan_closed kept taken xs
+
+  pub scan_after_close : (s : Standing X) (xs : List X) → s.closed ≡ true → s ≡ scan rule view s xs
+  scan_after_close s xs e =
+      let same : s ≡ standing true s.kept s.taken = ap (λ (b : Bool). standing b s.kept s.taken) e in
+      same ∙ sym (ap (λ (t : Standing X). scan rule view t xs) same ∙ scan_closed s.kept s.taken xs)
 
   -- one is shown
   pub scan_one : (kept : List ℕ) (taken : Option X) (x : X) (r : Reply) (s : Shown) (after : List ℕ) → s ≡ view x → r ≡ rule.reply kept s → after ≡ rule.next kept s

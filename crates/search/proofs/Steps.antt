@@ -1,32 +1,62 @@
 -- A level of the search: the keys under each next number are shown in turn.
-use Rattle.std.proofs.Common.{◌≡◌, ℕ, zero, suc, ◌+◌, ◌<◌, ◌≤◌, Bool, true, false, List, [], ◌∷◌, ◌++◌, Option, sym, ap, ◌∙◌, ⊎_elim, arith}
+use Rattle.std.proofs.Common.{◌≡◌, ℕ, zero, suc, ◌+◌, ◌<◌, ◌≤◌, Bool, true, false, List, [], ◌∷◌, ◌++◌, Some, None, Option, sym, refl, ap, ◌∙◌, ⊎_elim, arith}
+use Rattle.std.specs.Bool.{then_some}
 use Rattle.std.proofs.lemmas.Bool.{cases_lt}
 use Rattle.search.specs.declared.policy.Shown.{Shown}
 use Rattle.search.specs.declared.policy.Reply.{Reply}
+use Rattle.search.specs.declared.policy.Reply.TheVariants.{Leave, Take, Close}
 use Rattle.search.specs.Policy.{PolicyMeaning, Standing, standing, replied, scan}
-use Rattle.search.specs.Listing.{row, alone, listed}
-use Rattle.search.proofs.Scans.{scan_append, scan_closed, scan_nil, scan_one}
+use Rattle.search.specs.Listing.{row, alone, listed, shown_under}
+use Rattle.search.proofs.Scans.{scan_append, scan_after_close, scan_nil, scan_one}
 use Rattle.search.proofs.Rows.{row_nil, row_more, alone_none, alone_some, level, level_skip, listed_open}
 
--- a whole key: it fails the test, or it is shown
-module _ (rule : PolicyMeaning) (view : List ℕ → Shown) (test : List ℕ → Bool) (k : List ℕ) where
-  pub visit_none : (s : Standing (List ℕ)) → false ≡ test k → s ≡ scan rule view s (alone test k)
-  visit_none s e = sym (ap (scan rule view s) (alone_none test k (sym e)) ∙ scan_nil rule view s)
+-- where something is shown of a key, it passes the test
+passes_shown : (t : Bool) (v s : Shown) → Some s ≡ then_some t v → (t ≡ true) × (s ≡ v)
+passes_shown true v s e = (refl, cc)
+passes_shown false v s e = absurd (let z : ◌≡◌ {A = ℕ} 0 1 = cc in let w : ⊥ = omega arith in w)
 
-  pub visit_one : (kept : List ℕ) (taken : Option (List ℕ)) (r : Reply) (s : Shown) (after : List ℕ) → true ≡ test k → s ≡ view k → r ≡ rule.reply kept s → after ≡ rule.next kept s
-      → replied r after taken k ≡ scan rule view (standing false kept taken) (alone test k)
-  visit_one kept taken r s after e seen said keeps =
-      scan_one rule view kept taken k r s after seen said keeps ∙ ap (scan rule view (standing false kept taken)) (sym (alone_some test k (sym e)))
+fails_unshown : (t : Bool) (v : Shown) → None ≡ then_some t v → t ≡ false
+fails_unshown true v e = cc
+fails_unshown false v e = refl
+
+-- after a reply to x, where `closed` says whether the policy closed before
+abbrev pub stays : {X : Type 0} → Reply → Bool → List ℕ → Option X → X → Standing X
+stays Leave closed kept taken x = standing closed kept taken
+stays Take closed kept taken x = standing closed kept (Some x)
+stays Close closed kept taken x = standing true kept (Some x)
+
+stays_open : {X : Type 0} (r : Reply) (kept : List ℕ) (taken : Option X) (x : X) → stays r false kept taken x ≡ replied r kept taken x
+stays_open Leave kept taken x = refl
+stays_open Take kept taken x = refl
+stays_open Close kept taken x = refl
+
+-- a whole key: it fails the test, or it is shown
+module _ (rule : PolicyMeaning) (view : List ℕ → Shown) (test : List ℕ → Bool) (k : List ℕ) (s : Standing (List ℕ)) where
+  pub visit_none : None ≡ then_some (test k) (view k) → s ≡ scan rule view s (alone test k)
+  visit_none e = sym (ap (scan rule view s) (alone_none test k (fails_unshown (test k) (view k) e)) ∙ scan_nil rule view s)
+
+  pub visit_one : s.closed ≡ false → (r : Reply) (shown : Shown) (after : List ℕ) → Some shown ≡ then_some (test k) (view k) → r ≡ rule.reply s.kept shown → after ≡ rule.next s.kept shown
+      → stays r s.closed after s.taken k ≡ scan rule view s (alone test k)
+  visit_one open' r shown after e said keeps =
+      let passes = passes_shown (test k) (view k) shown e in
+      ap (λ (b : Bool). stays r b after s.taken k) open'
+      ∙ stays_open r after s.taken k
+      ∙ scan_one rule view s.kept s.taken k r shown after passes.1 said keeps
+      ∙ ap (λ (b : Bool). scan rule view (standing b s.kept s.taken) (k ∷ [])) (sym open')
+      ∙ ap (scan rule view s) (sym (alone_some test k passes.0))
 
 -- once the policy closed, what follows changes nothing
-closed_row : (rule : PolicyMeaning) (view : List ℕ → Shown) (f : ℕ → List (List ℕ)) (s : Standing (List ℕ)) (kept : List ℕ) (taken : Option (List ℕ)) (a b : ℕ) → a ≤ b
-    → standing true kept taken ≡ scan rule view s (row a f) → standing true kept taken ≡ scan rule view s (row b f)
+closed_row : (rule : PolicyMeaning) (view : List ℕ → Shown) (f : ℕ → List (List ℕ)) (s now : Standing (List ℕ)) (a b : ℕ) → a ≤ b → now.closed ≡ true
+    → now ≡ scan rule view s (row a f) → now ≡ scan rule view s (row b f)
 unfolding row
-closed_row rule view f s kept taken a zero l e = let same : a ≡ 0 = omega arith in e ∙ ap (λ (i : ℕ). scan rule view s (row i f)) same
-closed_row rule view f s kept taken a (suc b) l e =
+closed_row rule view f s now a zero l closed e = let same : a ≡ 0 = omega arith in e ∙ ap (λ (i : ℕ). scan rule view s (row i f)) same
+closed_row rule view f s now a (suc b) l closed e =
     ⊎_elim
     (λ (h : b < a). let same : a ≡ suc b = omega arith in e ∙ ap (λ (i : ℕ). scan rule view s (row i f)) same)
-    (λ (h : a ≤ b). sym (scan_append rule view s (row b f) (f b) ∙ ap (λ (x : Standing (List ℕ)). scan rule view x (f b)) (sym (closed_row rule view f s kept taken a b h e)) ∙ scan_closed rule view kept taken (f b)))
+    (λ (h : a ≤ b).
+    scan_after_close rule view now (f b) closed
+    ∙ ap (λ (x : Standing (List ℕ)). scan rule view x (f b)) (closed_row rule view f s now a b h closed e)
+    ∙ sym (scan_append rule view s (row b f) (f b)))
     (cases_lt b a)
 
 module _ (rule : PolicyMeaning) (view : List ℕ → Shown) (test : List ℕ → Bool) (limit left : ℕ) (prefix : List ℕ) (before : Standing (List ℕ)) where
@@ -53,8 +83,8 @@ module _ (rule : PolicyMeaning) (view : List ℕ → Shown) (test : List ℕ →
     seen_done base now l without seen = seen_all now (seen_skip base limit now l without seen)
 
     -- a close ends it
-    pub seen_closed : (base : ℕ) (kept : List ℕ) (taken : Option (List ℕ)) → base ≤ limit → Seen base (standing true kept taken) → standing true kept taken ≡ scan rule view before (listed test limit d prefix)
-    seen_closed base kept taken l seen = seen_all (standing true kept taken) (closed_row rule view (λ v. listed test limit left (prefix ++ v ∷ [])) before kept taken base limit l seen)
+    pub seen_closed : (base : ℕ) (now : Standing (List ℕ)) → base ≤ limit → now.closed ≡ true → Seen base now → now ≡ scan rule view before (listed test limit d prefix)
+    seen_closed base now l closed seen = seen_all now (closed_row rule view (λ v. listed test limit left (prefix ++ v ∷ [])) before now base limit l closed seen)
 
   -- the keys that begin with the prefix and the number `base` were shown
   pub seen_more : (base : ℕ) (now : Standing (List ℕ)) → Seen base now → (k : List ℕ) → k ≡ prefix ++ base ∷ [] → (d : ℕ) → d ≡ left
@@ -63,3 +93,8 @@ module _ (rule : PolicyMeaning) (view : List ℕ → Shown) (test : List ℕ →
       e ∙ ap (λ (j : ℕ). scan rule view now (listed test limit j k)) less ∙ ap (λ (x : List ℕ). scan rule view now (listed test limit left x)) put
       ∙ ap (λ (s : Standing (List ℕ)). scan rule view s (listed test limit left (prefix ++ base ∷ []))) seen
       ∙ sym (ap (scan rule view before) (row_more (λ v. listed test limit left (prefix ++ v ∷ [])) base) ∙ scan_append rule view before _ _)
+
+-- problems that are one are searched alike
+pub shown_same : {Q : Type 0} (rule : PolicyMeaning) (view : Q → List ℕ → Shown) (test : Q → List ℕ → Bool) (q q' : Q) (k : List ℕ) (now after : Standing (List ℕ)) → q' ≡ q
+    → after ≡ shown_under rule (view q') (test q') k now → after ≡ shown_under rule (view q) (test q) k now
+shown_same {Q} rule view test q q' k now after same e = e ∙ ap (λ (u : Q). shown_under rule (view u) (test u) k now) same

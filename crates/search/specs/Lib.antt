@@ -2,3 +2,5 @@ pub mod Policy
 pub mod Policies
 pub mod Keys
 pub mod Listing
+pub mod Sets
+pub mod Prefixes

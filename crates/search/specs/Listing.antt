@@ -2,6 +2,7 @@
 use Rattle.std.specs.Prelude.{◌≡◌, ℕ, zero, suc, ◌-◌, ◌<◌, ◌≤◌, Bool, true, false, cond, List, [], ◌∷◌, ◌++◌, length, Some, None, Option, ◌≢◌, slice_index}
 use Rattle.std.specs.List.{AllByRecursion}
 use Rattle.gates.specs.Lines.{bit}
+use Rattle.search.specs.declared.key.Key.{Key}
 use Rattle.search.specs.declared.policy.Shown.{Shown}
 use Rattle.search.specs.declared.walk.Found.{Found}
 use Rattle.search.specs.Keys.{key_size, number_limit, keyed, ShownIn}
@@ -40,6 +41,10 @@ pub record Fits {X Y : Type 0} (Sound : Type 0) (started : ℕ → X → Type 0)
   pub some : 0 < length k
   pub first : started (slice_index k 0) start
   pub whole : noted k note
+
+-- the same of a key in memory, where what is searched is q
+abbrev pub FitsAt : {Q X Y : Type 0} → (Q → Type 0) → (Q → ℕ → X → Type 0) → (Q → List ℕ → Y → Type 0) → Q → Key → X → Y → Type 0
+FitsAt sound started noted q key start note = Fits (sound q) (started q) (noted q) (keyed key) start note
 
 -- a note is right for a key of one number more than one of which the note above is right
 abbrev pub NotedNext : {X Y : Type 0} → Type 0 → (ℕ → X → Type 0) → (List ℕ → Y → Type 0) → List ℕ → X → Y → Y → Type 0

@@ -33,10 +33,8 @@ impl Policy for Largest {
     }
 
     fn show(&mut self, shown: Shown) -> Reply {
-        if let Some(best) = self.best {
-            if shown.saved <= best {
-                return Reply::Leave;
-            }
+        if self.best.is_some_and(|best| shown.saved <= best) {
+            return Reply::Leave;
         }
         self.best = Some(shown.saved);
         Reply::Take

@@ -7,6 +7,8 @@ mod key;
 mod largest;
 mod policies;
 mod policy;
+mod prefix;
+mod showing;
 mod walk;
 
 pub use earliest::Earliest;

@@ -1,12 +1,11 @@
-// The search for all keys that occur: depth first, the next numbers of each prefix in rising order, so that what occurs
-// is found in rank order.
+// What is searched for, and what a policy singles out of all keys that occur.
 ghost use Rattle.std.specs.Prelude.{◌≡◌, ℕ, ◌<◌, ◌≤◌, Bool, true, false, List, [], length, Decides};
 ghost use Rattle.search.specs.declared.policy.Shown.{Shown};
-ghost use Rattle.search.specs.Keys.{held, key_size, keyed, number_limit};
-ghost use Rattle.search.specs.Listing.{Chosen, Covers, Fits, FitsKey, FoundLowest, NotedNext, Passes, Searched, StartsBelow, StartsFrom, Whole, alone, found_key, shown_under};
-ghost use Rattle.search.specs.Policy.{scan, standing};
+ghost use Rattle.search.specs.Keys.{key_size, keyed, number_limit};
+ghost use Rattle.search.specs.Listing.{Chosen, Covers, FitsAt, FitsKey, FoundLowest, NotedNext, StartsBelow, StartsFrom, Whole, found_key};
 
-use super::{KEY_SIZE, Key, Policy, Reply, Shown};
+use super::showing::Showing;
+use super::{Key, Policy, Shown};
 
 // What a search found: the key that the policy singled out, and the least first number of all keys that occur.
 #[derive(Clone, Copy)]
@@ -16,6 +15,7 @@ pub struct Found {
 }
 
 // What is searched for: the keys that are `occurring`, which `test` decides.
+// A method is handed the parts of a prefix one by one: most use one or two, which a struct would spell `prefix.key`.
 pub trait Problem {
     // What is worked out once for a first number, and serves all keys that begin with it.
     type Start: Drop;
@@ -64,146 +64,35 @@ pub trait Problem {
 
     // Whether the key is whole: none that occurs is longer.
     fn is_whole(&self, start: &Self::Start, note: &Self::Note, key: &Key) -> bool
-        ensures { Fits (sound self.now) (started self.now) (noted self.now) (keyed key.now) start.now note.now
+        ensures { FitsAt sound started noted self.now key.now start.now note.now
             → Whole (test self.now) (keyed key.now) result };
 
     // A set that has the next number of every longer key that occurs.
     fn candidates(&self, start: &Self::Start, note: &Self::Note, key: &Key) -> u64
-        ensures { Fits (sound self.now) (started self.now) (noted self.now) (keyed key.now) start.now note.now
+        ensures { FitsAt sound started noted self.now key.now start.now note.now
             → Covers (test self.now) (keyed key.now) result };
 
     // Whether the key occurs.
     fn occurs(&self, start: &Self::Start, note: &Self::Note, key: &Key) -> bool
-        ensures { Fits (sound self.now) (started self.now) (noted self.now) (keyed key.now) start.now note.now
+        ensures { FitsAt sound started noted self.now key.now start.now note.now
             → result ≡ test self.now (keyed key.now) };
 
     // What a policy is shown of the key.
     fn shown(&self, start: &Self::Start, note: &Self::Note, key: &Key) -> Shown
-        ensures { Fits (sound self.now) (started self.now) (noted self.now) (keyed key.now) start.now note.now
+        ensures { FitsAt sound started noted self.now key.now start.now note.now
             → result ≡ view self.now (keyed key.now) };
-}
-
-// Whether no longer key occurs.
-fn is_last<Q: Problem>(problem: &Q, start: &Q::Start, note: &Q::Note, key: &Key) -> bool
-    ensures whole { Fits (Q.Problem.sound problem.now) (Q.Problem.started problem.now) (Q.Problem.noted problem.now) (keyed key.now) start.now note.now
-        → Whole (Q.Problem.test problem.now) (keyed key.now) result }
-    ensures room { result ≡ false → length (keyed key.now) < key_size }
-{
-    if key.len() == KEY_SIZE {
-        return true;
-    }
-    problem.is_whole(start, note, key)
-}
-
-// Shows the policy a whole key, if it occurs. True: the policy closed.
-fn visit<Q: Problem, P: Policy>(
-    problem: &Q,
-    policy: &mut P,
-    taken: &mut Option<Key>,
-    start: &Q::Start,
-    note: &Q::Note,
-    key: &Key,
-) -> bool
-    ensures { Fits (Q.Problem.sound problem.now) (Q.Problem.started problem.now) (Q.Problem.noted problem.now) (keyed key.now) start.now note.now
-        → standing result (P.Policy.kept policy.new) (held taken.new)
-        ≡ scan P.Policy.rule (Q.Problem.view problem.now)
-        (standing false (P.Policy.kept policy.old) (held taken.old))
-        (alone (Q.Problem.test problem.now) (keyed key.now)) }
-{
-    if !problem.occurs(start, note, key) {
-        return false;
-    }
-    match policy.show(problem.shown(start, note, key)) {
-        Reply::Leave => false,
-        Reply::Take => {
-            *taken = Some(*key);
-            false
-        }
-        Reply::Close => {
-            *taken = Some(*key);
-            true
-        }
-    }
-}
-
-// Shows the policy, in rank order, what occurs of the keys that begin with this one. True: the policy closed.
-fn descend<Q: Problem, P: Policy>(
-    problem: &Q,
-    policy: &mut P,
-    taken: &mut Option<Key>,
-    start: &Q::Start,
-    note: &Q::Note,
-    key: &Key,
-) -> bool
-    ensures { Fits (Q.Problem.sound problem.now) (Q.Problem.started problem.now) (Q.Problem.noted problem.now) (keyed key.now) start.now note.now
-        → standing result (P.Policy.kept policy.new) (held taken.new)
-        ≡ shown_under P.Policy.rule (Q.Problem.view problem.now) (Q.Problem.test problem.now) (keyed key.now)
-        (standing false (P.Policy.kept policy.old) (held taken.old)) }
-{
-    if is_last(problem, start, note, key) {
-        return visit(problem, policy, taken, start, note, key);
-    }
-    let mut rest = problem.candidates(start, note, key);
-    let mut base: u32 = 0;
-    while rest != 0 {
-        let number = base + rest.trailing_zeros();
-        let longer = key.with(number as u16);
-        let deeper = problem.note(start, note, &longer);
-        if descend(problem, policy, taken, start, &deeper, &longer) {
-            return true;
-        }
-        rest = rest >> (number - base) >> 1;
-        base = number + 1;
-    }
-    false
-}
-
-// Clears the policy and shows it, in rank order, what occurs of the keys with first number `from` or above.
-// Returns the first number of the first that occurs, where one does.
-fn search<Q: Problem, P: Policy>(
-    problem: &Q,
-    policy: &mut P,
-    taken: &mut Option<Key>,
-    from: usize,
-) -> usize
-    ensures { Q.Problem.sound problem.now → StartsFrom (Passes (Q.Problem.test problem.now)) from
-        → Searched (Q.Problem.test problem.now) (Q.Problem.view problem.now) P.Policy.rule
-        (held taken.new) (P.Policy.kept policy.new) result }
-{
-    let end = problem.starts();
-    let root = Key::new();
-    let blank = problem.blank();
-    let mut lowest = from.min(end);
-    policy.clear();
-    *taken = None;
-    for place in from.min(end)..end {
-        if taken.is_none() {
-            lowest = place;
-        }
-        let first = place as u16;
-        let key = root.with(first);
-        let start = problem.start(first);
-        let note = problem.note(&start, &blank, &key);
-        if descend(problem, policy, taken, &start, &note, &key) {
-            return lowest;
-        }
-    }
-    lowest
 }
 
 // What the policy, cleared, singles out of all that occurs, where what is searched is sound and no key that occurs begins
 // with a number below `from`.
 pub fn choose<Q: Problem, P: Policy>(problem: &Q, policy: &mut P, from: usize) -> Option<Found>
-    ensures chosen { Q.Problem.sound problem.now → StartsFrom (Q.Problem.occurring problem.now) from
-        → Chosen (Q.Problem.occurring problem.now) (Q.Problem.view problem.now) P.Policy.rule
-        (found_key result) (P.Policy.kept policy.new) }
-    ensures lowest { Q.Problem.sound problem.now → StartsFrom (Q.Problem.occurring problem.now) from
-        → FoundLowest (Q.Problem.occurring problem.now) result }
+    ensures chosen { Q.sound problem.now → StartsFrom (Q.occurring problem.now) from
+        → Chosen (Q.occurring problem.now) (Q.view problem.now) P.rule
+        (found_key result) (P.kept policy.new) }
+    ensures lowest { Q.sound problem.now → StartsFrom (Q.occurring problem.now) from
+        → FoundLowest (Q.occurring problem.now) result }
 {
-    let mut taken = None;
-    let lowest = search(problem, policy, &mut taken, from);
-    match taken {
-        None => None,
-        Some(key) => Some(Found { key, lowest }),
-    }
+    let mut showing = Showing::new(policy);
+    let lowest = showing.search(problem, from);
+    showing.taken.map(|key| Found { key, lowest })
 }
