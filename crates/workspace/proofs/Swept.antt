@@ -1,19 +1,19 @@
 -- What a search and the replacement of what it found come to.
-use Rattle.std.proofs.Common.{◌≡◌, ℕ, ◌≤◌, List, [], length, Some, None, Option, sym, refl, ap, ◌∙◌, subst, arith}
+use Rattle.std.proofs.Common.{◌≡◌, ℕ, ◌≤◌, List, [], length, take, Some, None, Option, sym, refl, ap, ◌∙◌, subst, arith}
+use Rattle.std.proofs.lemmas.List.{length-map, length-take}
 use Rattle.gates.specs.Kinds.{KindMeaning, KindLaws}
 use Rattle.stores.specs.Stores.{Bounded}
 use Rattle.search.specs.Keys.{ShownIn}
 use Rattle.search.specs.Listing.{Chosen, StartsFrom}
 use Rattle.search.specs.Policy.{PolicyMeaning, scan, opening}
-use Rattle.workspace.specs.declared.entry.Entry.{Entry}
+use Rattle.workspace.specs.declared.shelf.Shelf.{Shelf}
 use Rattle.workspace.specs.declared.replacement.Replacement.{Replacement}
 use Rattle.workspace.specs.Conditions.{Condition, Sound}
 use Rattle.workspace.specs.Matching.{OccursIn, Searchable, shown_of}
 use Rattle.workspace.specs.Promises.{SweepPromise, KeptAfter}
 use Rattle.workspace.specs.Sweeps.{Replaced, Done, NothingOccurs}
 use Rattle.workspace.proofs.DecidingOccurrences.{decides_occurrences}
-use Rattle.workspace.specs.Shelves.{entries_of}
-use Rattle.workspace.proofs.Entries.{entries_long}
+use Rattle.workspace.specs.Shelves.{entries_of, entry_of}
 use Rattle.workspace.proofs.Keying.{keys_fit}
 use Rattle.workspace.proofs.Sweeping.{replaced_shortens, unshortened}
 
@@ -22,8 +22,8 @@ pub searchable : (k : KindMeaning) (c : Condition) → Bounded c.store → lengt
 searchable k c bounded few sound = record { sound = sound; fits = keys_fit k c sound bounded few; decides = decides_occurrences k c.store.lines c.store.gates c.shelf }
 
 -- a shelf in memory has at most 64 entries
-pub few_entries : (entries : List Entry) (count : ℕ) → length entries ≡ 64 → count ≤ 64 → length (entries_of entries count) ≤ 64
-few_entries entries count wide few = omega (arith, entries_long entries count (omega arith))
+pub few_entries : (shelf : Shelf) → length (entries_of shelf) ≤ 64
+few_entries shelf = omega (arith, length-map (take shelf.entries.count shelf.entries.items) entry_of, length-take shelf.entries.count shelf.entries.items, shelf.entries.few)
 
 -- from 0 on there is every first number
 pub from_none : (P : List ℕ → Type 0) → StartsFrom P 0

@@ -4,6 +4,6 @@ use Rattle.workspace.specs.declared.holdings.Holdings.{Holdings}
 use Rattle.workspace.specs.Conditions.{Condition, condition}
 use Rattle.workspace.specs.Shelves.{entries_of}
 
--- the store, by what it means, and as many entries as the shelf counts
+-- the store, by what it means, and the entries of the shelf
 abbrev pub condition_of : {S : Type 0} → (S → StoreMeaning) → Holdings S → Condition
-condition_of means h = condition (means h.store) (entries_of h.shelf.entries h.shelf.count)
+condition_of means h = condition (means h.store) (entries_of h.shelf)

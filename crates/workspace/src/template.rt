@@ -1,7 +1,8 @@
 // Templates, as they are proposed and as a shelf holds them.
-ghost use Rattle.std.specs.Prelude.{◌≡◌, ◌≤◌, [], length, take};
+ghost use Rattle.std.specs.Prelude.{◌≡◌, ◌≤◌, [], length};
 ghost use Rattle.workspace.specs.Proposals.{proposed, template_of};
 
+use fixed_list::FixedList;
 use gates::Gate;
 
 // A set of positions in a template, position i at the bit of weight 2^i.
@@ -36,22 +37,8 @@ pub struct Proposal<'a> {
 #[derive(Clone, Copy)]
 pub struct Template {
     lines: u8,
-    size: usize,
-    gates: [Gate; MOST_GATES],
-    group_count: usize,
-    groups: [PositionSet; MOST_GROUPS],
-}
-
-// An array that begins with the items, and has the blank behind them.
-fn padded<T: Copy, const N: usize>(items: &[T], blank: T) -> [T; N]
-    requires { length items.now ≤ N }
-    ensures { take (length items.now) result ≡ items.now }
-{
-    let mut array = [blank; N];
-    for place in 0..items.len() {
-        array[place] = items[place];
-    }
-    array
+    gates: FixedList<Gate, MOST_GATES>,
+    groups: FixedList<PositionSet, MOST_GROUPS>,
 }
 
 impl Template {
@@ -61,10 +48,8 @@ impl Template {
     {
         Template {
             lines: 0,
-            size: 0,
-            gates: [BLANK; MOST_GATES],
-            group_count: 0,
-            groups: [0; MOST_GROUPS],
+            gates: FixedList::new(BLANK),
+            groups: FixedList::new(0),
         }
     }
 
@@ -76,10 +61,8 @@ impl Template {
     {
         Template {
             lines: proposal.lines,
-            size: proposal.gates.len(),
-            gates: padded(proposal.gates, BLANK),
-            group_count: proposal.groups.len(),
-            groups: padded(proposal.groups, 0),
+            gates: FixedList::of(proposal.gates, BLANK),
+            groups: FixedList::of(proposal.groups, 0),
         }
     }
 
@@ -95,20 +78,20 @@ impl Template {
         ensures is { result ≡ length (template_of self.now).gates }
         ensures few { result ≤ 8 }
     {
-        self.gates().len()
+        self.gates.len()
     }
 
     // Its gates.
     pub fn gates(&self) -> &[Gate]
         ensures { result.now ≡ (template_of self.now).gates }
     {
-        &self.gates[0..self.size.min(MOST_GATES)]
+        self.gates.as_slice()
     }
 
     // Its listed groups.
     pub fn groups(&self) -> &[PositionSet]
         ensures { result.now ≡ (template_of self.now).groups }
     {
-        &self.groups[0..self.group_count.min(MOST_GROUPS)]
+        self.groups.as_slice()
     }
 }

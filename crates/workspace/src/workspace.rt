@@ -76,10 +76,9 @@ impl<S: Store, P: Policy> Workspace<S, P> {
     pub fn replacements(&self, number: usize) -> Result<u16, TemplateRefusal>
         ensures { result ≡ replacements_outcome (condition_of S.Store.means self.now.holdings) number }
     {
-        if number < self.holdings.shelf.count() {
-            Ok(self.holdings.shelf.replacements(number))
-        } else {
-            Err(TemplateRefusal::NoSuchEntry)
-        }
+        self.holdings
+            .shelf
+            .replacements(number)
+            .ok_or(TemplateRefusal::NoSuchEntry)
     }
 }

@@ -37,7 +37,7 @@ returns-then-replacements-budget g c =
     let key = keyed c.in-Some.found.key in
     let at = c.loop-found.invariant.1 in
     let all : Sound k before → Chosen (OccursIn k here) (shown_of here.shelf) rule (Some key) kept =
-    λ sound. c.in-Some.ensures.chosen (searchable k here (g.S.Store.bounded h.store) (few_entries h.shelf.entries h.shelf.count h.shelf.wide h.shelf.few) (at sound).shortened.sound) (at sound).below in
+    λ sound. c.in-Some.ensures.chosen (searchable k here (g.S.Store.bounded h.store) (few_entries h.shelf) (at sound).shortened.sound) (at sound).below in
     record {
       refused = tt;
       promised = (
@@ -61,7 +61,7 @@ loop-found-preserved g c =
     let kept = g.P.Policy.kept c.choose.new.policy in
     let key = keyed c.in-Some.found.key in
     let at = c.loop-found.invariant.1 in
-    let ready = λ (sound : Sound k before). searchable k here (g.S.Store.bounded h.store) (few_entries h.shelf.entries h.shelf.count h.shelf.wide h.shelf.few) (at sound).shortened.sound in
+    let ready = λ (sound : Sound k before). searchable k here (g.S.Store.bounded h.store) (few_entries h.shelf) (at sound).shortened.sound in
     let all : Sound k before → Chosen (OccursIn k here) (shown_of here.shelf) rule (Some key) kept = λ sound. c.in-Some.ensures.chosen (ready sound) (at sound).below in
     let bounded = g.S.Store.bounded c.args.self.now.holdings.store in (
       omega (arith, c.loop-found.invariant.0),
@@ -81,7 +81,7 @@ returns g c =
     let kept = g.P.Policy.kept c.choose.new.policy in
     let at = c.loop-found.invariant.1 in
     let all : Sound k before → Chosen (OccursIn k here) (shown_of here.shelf) rule None kept =
-    λ sound. c.in_default.ensures.chosen (searchable k here (g.S.Store.bounded h.store) (few_entries h.shelf.entries h.shelf.count h.shelf.wide h.shelf.few) (at sound).shortened.sound) (at sound).below in
+    λ sound. c.in_default.ensures.chosen (searchable k here (g.S.Store.bounded h.store) (few_entries h.shelf) (at sound).shortened.sound) (at sound).below in
     record {
       refused = tt;
       promised = (

@@ -14,7 +14,7 @@ returns-in-None g c =
     let h = c.args.self.now.holdings in
     let before = condition_of g.S.Store.means h in
     let kept = g.P.Policy.kept c.choose.new.policy in
-    let all : Sound k before → Chosen (OccursIn k before) (shown_of before.shelf) rule None kept = λ sound. c.in-None.ensures.chosen (searchable k before (g.S.Store.bounded h.store) (few_entries h.shelf.entries h.shelf.count h.shelf.wide h.shelf.few) sound) (from_none (OccursIn k before)) in
+    let all : Sound k before → Chosen (OccursIn k before) (shown_of before.shelf) rule None kept = λ sound. c.in-None.ensures.chosen (searchable k before (g.S.Store.bounded h.store) (few_entries h.shelf) sound) (from_none (OccursIn k before)) in
     record { promised = λ sound. swept_none k rule before kept sound (all sound); policy = λ sound. kept_after k rule before kept _ (all sound) }
 
 pub returns-in-Some : goal.returns-in-Some
@@ -25,7 +25,7 @@ returns-in-Some g c =
     let before = condition_of g.S.Store.means h in
     let kept = g.P.Policy.kept c.choose.new.policy in
     let key = keyed c.in-Some.found.key in
-    let all : Sound k before → Chosen (OccursIn k before) (shown_of before.shelf) rule (Some key) kept = λ sound. c.in-Some.ensures.chosen (searchable k before (g.S.Store.bounded h.store) (few_entries h.shelf.entries h.shelf.count h.shelf.wide h.shelf.few) sound) (from_none (OccursIn k before)) in
+    let all : Sound k before → Chosen (OccursIn k before) (shown_of before.shelf) rule (Some key) kept = λ sound. c.in-Some.ensures.chosen (searchable k before (g.S.Store.bounded h.store) (few_entries h.shelf) sound) (from_none (OccursIn k before)) in
     record {
       promised = λ sound. swept_some k rule before kept g.met.S.Kind.GateKind.lawful key c.replace.result (condition_of g.S.Store.means c.replace.new.self) sound (all sound) (c.replace.ensures sound ((all sound).occurs key refl));
       policy = λ sound. kept_after k rule before kept _ (all sound);
