@@ -1,10 +1,11 @@
 -- Lists in arrays: what moving the later items up leaves.
-use Rattle.std.proofs.Common.{◌≡◌, ℕ, zero, suc, [], ◌∷◌, refl, slice_set, ◌+◌, ◌-◌, ◌<◌, ◌≤◌, Bool, List, ◌++◌, length, take, drop, sym, ap, ap₂, ◌∙◌, arith, cond}
-use Rattle.std.specs.List.{copy_within, remove}
+use Rattle.std.proofs.Common.{◌≡◌, ℕ, subst, get_or, zero, suc, [], ◌∷◌, refl, slice_set, ◌+◌, ◌-◌, ◌<◌, ◌≤◌, Bool, List, ◌++◌, length, take, drop, sym, ap, ap₂, ◌∙◌, arith, cond}
+use Rattle.std.specs.List.{AllZip, copy_within, remove}
+use Rattle.std.proofs.lemmas.Slice.Zip.{AllZip-long}
 use Rattle.std.proofs.lemmas.Bool.{lt-ltb}
-use Rattle.std.proofs.lemmas.List.{drop-take, take-take, length-drop, length-take-le}
+use Rattle.std.proofs.lemmas.List.{drop-take, take-take, take_more, length-drop, length-take-le}
 use Rattle.std.proofs.lemmas.List.Edits.{take-paste}
-use Rattle.fixed_list.specs.Lists.{removed}
+use Rattle.fixed_list.specs.Lists.{pushed, removed}
 
 module _ {T : Type 0} (xs : List T) (count place : ℕ) (there : place < count) (within : count ≤ length xs) where
   -- one item less: those before the place, and those behind it
@@ -31,3 +32,18 @@ changed_in zero xs i y = refl
 changed_in (suc n) [] i y = refl
 changed_in (suc n) (x ∷ xs) zero y = refl
 changed_in (suc n) (x ∷ xs) (suc i) y = ap (λ (r : List _). x ∷ r) (changed_in n xs i y)
+
+-- one item more on each side
+zip_more : {A B : Type 0} (R : A → B → Type 0) (xs : List A) (ys : List B) (x : A) (y : B) → AllZip R xs ys → R x y → AllZip R (xs ++ x ∷ []) (ys ++ y ∷ [])
+zip_more R [] [] x y zipped one = (one, tt)
+zip_more R [] (b ∷ ys) x y zipped one = absurd zipped
+zip_more R (a ∷ xs) [] x y zipped one = absurd zipped
+zip_more R (a ∷ xs) (b ∷ ys) x y zipped one = (zipped.0, zip_more R xs ys x y zipped.1 one)
+
+-- one item more is turned, and there is room for it
+pub turned_more : {A B : Type 0} (R : A → B → Type 0) (xs : List A) (ys : List B) (i most : ℕ) (d : A) (y : B)
+    → i < length xs → length xs ≤ most → AllZip R (take i xs) ys → R (get_or xs i d) y → AllZip R (take (i + 1) xs) (pushed most ys y)
+turned_more R xs ys i most d y inside few zipped one =
+    let room : length ys < most = omega (arith, AllZip-long R (take i xs) ys zipped, length-take-le i xs (omega arith)) in
+    subst (AllZip R (take (i + 1) xs)) (sym (ap (λ (t : Bool). cond t (ys ++ y ∷ []) ys) (lt-ltb (length ys) most room)))
+    (subst (λ (zs : List _). AllZip R zs (ys ++ y ∷ [])) (sym (take_more xs i d inside)) (zip_more R (take i xs) ys (get_or xs i d) y zipped one))

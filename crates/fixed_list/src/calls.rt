@@ -1,5 +1,6 @@
 // The calls of a list.
 ghost use Rattle.std.specs.Prelude.{◌≡◌, ◌<◌, ◌≤◌, [], length, take, slice_get};
+ghost use Rattle.std.specs.List.{AllZip};
 ghost use Rattle.fixed_list.specs.Lists.{Changed, contents, push_outcome, pushed, removed};
 
 use super::FixedList;
@@ -70,6 +71,18 @@ impl<T: Copy, const N: usize> FixedList<T, N> {
         self.items.copy_within(place + 1..self.count, place);
         self.count -= 1;
         Some(item)
+    }
+
+    // The list of what each item is turned into.
+    pub fn map<U: Copy, F: Fn(T) -> U>(&self, blank: U, turn: F) -> FixedList<U, N>
+        requires { F.IsAlwaysCallable turn }
+        ensures { AllZip (F.post turn) (contents self.now) (contents result) }
+    {
+        let mut turned = FixedList::new(blank);
+        for item in self.as_slice() {
+            let _ = turned.push(turn(*item));
+        }
+        turned
     }
 
     // Changes the item at a place, where there is one.

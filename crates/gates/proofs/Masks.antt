@@ -1,11 +1,11 @@
 -- What `&`, `|`, `^` and `1 << x` do to the members of a set.
 use Rattle.std.proofs.Common.{◌≡◌, ℕ, zero, suc, ◌+◌, ◌-◌, ◌*◌, ◌/◌, ◌%◌, ◌^◌, ◌<◌, ◌≤◌, Bool, true, false, cond, not, ◌&&◌, ◌||◌, eqb, ltb, ◌⊎◌, List, [], ◌∷◌, ◌++◌, length, get_or, take, sym, refl, ap, ◌∙◌, ap₂, inl, inr, pow-suc, arith}
 use mathlib.Core.Path.{fun_ext}
-use mathlib.Core.Bool.{and-true, and-false}
+use mathlib.Core.Bool.{and-true, and-false, or_comm}
 use native.Mathlib.Nat.{div-eq_of_lt}
 use lib.Bits.{bit_and, bit_or, bit_xor}
 use Rattle.std.proofs.lemmas.Nat.{and_shr, or_shr, xor_shr, and_mod, or_mod, xor_mod, shl-shr, pow-add, pow_below, pow_pos, and_le_l, or_lt, one_shl, and_mask, le-div}
-use Rattle.std.proofs.lemmas.List.{take_more, take_all, length-take}
+use Rattle.std.proofs.lemmas.List.{take_more, length-take}
 use Rattle.std.proofs.lemmas.Bool.{cases_order, cases_lt, cases_eq, eq-eqb, ne_eqb, eqb-true, lt-ltb, le-ltb, not-true, not_from_false}
 use Rattle.gates.specs.Lines.{width, bit, inverted_if, where_below}
 use Rattle.gates.specs.Controls.{apart, image, renamed_set, exchanged, with_member}
@@ -100,14 +100,8 @@ pub line_added : (set line : ℕ) → set < 2 ^ width → line < width → bit_o
 line_added set line ls lt =
     set_ext width _ _ (or_lt width set _ ls (omega (arith, one_shl line width lt, pow_below line width lt))) (where_lt width (λ i. eqb i line || bit set i))
     (λ i il.
-    bit-bit_or set _ i ∙ ap (λ (b : Bool). bit set i || b) (ap (λ (x : ℕ). bit x i) (one_shl line width lt) ∙ bit_power line i) ∙ either (bit set i) (eqb i line)
+    bit-bit_or set _ i ∙ ap (λ (b : Bool). bit set i || b) (ap (λ (x : ℕ). bit x i) (one_shl line width lt) ∙ bit_power line i) ∙ or_comm (bit set i) (eqb i line)
     ∙ sym (bit_where width (λ i. eqb i line || bit set i) i il))
-  where
-    either : (x y : Bool) → (x || y) ≡ (y || x)
-    either true true = refl
-    either true false = refl
-    either false true = refl
-    either false false = refl
 
 pub line_beyond : (set line : ℕ) → set < 2 ^ width → width ≤ line → set ≡ with_member line set
 line_beyond set line ls ge =
@@ -186,9 +180,6 @@ module _ (t : List ℕ) (m i : ℕ) where
   pub renamed_skip : i < length t → bit m i ≡ false → renamed_set (take i t) m ≡ renamed_set (take (i + 1) t) m
   renamed_skip lt e =
       ap (where_below width) (fun_ext λ j. sym (image_more t i (bit m) j lt ∙ ap (λ (b : Bool). b || image (take i t) (bit m) j) (ap (λ (b : Bool). eqb (get_or t i 0) j && b) e ∙ and-false (eqb (get_or t i 0) j))))
-
-  pub renamed_past : length t ≤ i → renamed_set (take i t) m ≡ renamed_set (take (i + 1) t) m
-  renamed_past le = ap (λ (u : List ℕ). renamed_set u m) (take_all i t le ∙ sym (take_all (i + 1) t (omega arith)))
 
 pub renamed_whole : (t : List ℕ) (m : ℕ) → m < 2 ^ width → renamed_set (take width t) m ≡ renamed_set t m
 renamed_whole t m lm = ap (where_below width) (fun_ext λ j. image_cut t width (bit m) j (λ i le. bit_above m width i lm le))

@@ -69,6 +69,10 @@ gate a b p q = record { a = a; b = b; positive = p; negative = q }
 abbrev pub with_flipped_controls_lem : ℕ → Gate → Gate
 with_flipped_controls_lem f g = gate g.a g.b (exchanged f g.positive g.negative) (exchanged f g.negative g.positive)
 
+-- the gate with its controls on their new lines
+abbrev pub with_renamed_controls_lem : List ℕ → Gate → Gate
+with_renamed_controls_lem table g = gate g.a g.b (renamed_set table g.positive) (renamed_set table g.negative)
+
 -- the gate with one more control, on line l
 abbrev pub with_control_lem : ℕ → Sign → Gate → Gate
 with_control_lem l sign g = gate g.a g.b (more_positive l sign g.positive) (more_negative l sign g.negative)

@@ -1,12 +1,13 @@
 // What every kind's gates share: the two sets of controls.
 ghost use Rattle.std.specs.Prelude.{◌≡◌};
-ghost use Rattle.gates.specs.Controls.{controls_form, controls_hold, reads, with_control_lem, with_flipped_controls_lem};
+ghost use Rattle.gates.specs.Controls.{controls_form, controls_hold, reads, with_control_lem, with_flipped_controls_lem, with_renamed_controls_lem};
 ghost use Rattle.gates.specs.Lines.{bit};
 
 use super::{Gate, LineSet, Sign, WIDTH, sets};
 
 impl Gate {
     // Whether the controls are lines below `lines`, of which there may be at most `WIDTH`, and no line has both signs.
+    #[tactic(auto, unfolding(crate::specs::Controls::controls_form))]
     pub fn are_controls_well_formed(self, lines: u8) -> bool
         ensures { result ≡ controls_form lines self.positive self.negative }
     {
@@ -37,6 +38,17 @@ impl Gate {
         Gate {
             positive: sets::exchange(chosen, self.positive, self.negative),
             negative: sets::exchange(chosen, self.negative, self.positive),
+            ..self
+        }
+    }
+
+    // The gate with its controls on their new lines; `a` and `b` stay.
+    pub fn with_renamed_controls(self, table: &[u8]) -> Gate
+        ensures { result ≡ with_renamed_controls_lem table.now self }
+    {
+        Gate {
+            positive: sets::rename(table, self.positive),
+            negative: sets::rename(table, self.negative),
             ..self
         }
     }

@@ -79,8 +79,7 @@ impl GateKind for Fredkin {
         Gate {
             a: a.min(b),
             b: a.max(b),
-            positive: sets::rename(table, gate.positive),
-            negative: sets::rename(table, gate.negative),
+            ..gate.with_renamed_controls(table)
         }
     }
 

@@ -29,3 +29,13 @@ pub struct Gate {
     pub positive: LineSet,
     pub negative: LineSet,
 }
+
+impl Gate {
+    // The record of zeros, as memory holds it where no gate has been written.
+    pub const BLANK: Gate = Gate {
+        a: 0,
+        b: 0,
+        positive: 0,
+        negative: 0,
+    };
+}

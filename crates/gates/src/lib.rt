@@ -14,4 +14,5 @@ pub use cascade::{cascade_laws, invert_cascade, run_cascade, worked_examples};
 pub use fredkin::Fredkin;
 pub use gate::{Gate, GateRefusal, LineSet, Sign, WIDTH};
 pub use kind::GateKind;
+pub use refusal::check_gate;
 pub use toffoli::Toffoli;

@@ -44,8 +44,7 @@ pub fn exchange(chosen: LineSet, set: LineSet, other: LineSet) -> LineSet
 pub fn new_line(table: &[u8], line: u8) -> u8
     ensures { result ≡ slice_index table.now line }
 {
-    let place = line as usize;
-    if place < table.len() { table[place] } else { 0 }
+    table.get(line as usize).copied().unwrap_or(0)
 }
 
 // The new lines of the set's lines.
@@ -53,10 +52,9 @@ pub fn rename(table: &[u8], set: LineSet) -> LineSet
     ensures { result ≡ renamed_set table.now set }
 {
     let mut renamed: LineSet = 0;
-    for line in 0..WIDTH {
-        let place = line as usize;
-        if place < table.len() && has_line(set, line) {
-            renamed = with_line(renamed, table[place]);
+    for (line, new) in (0..WIDTH).zip(table) {
+        if has_line(set, line) {
+            renamed = with_line(renamed, *new);
         }
     }
     renamed

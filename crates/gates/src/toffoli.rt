@@ -40,8 +40,7 @@ impl GateKind for Toffoli {
         Gate {
             a: sets::new_line(table, gate.a),
             b: 0,
-            positive: sets::rename(table, gate.positive),
-            negative: sets::rename(table, gate.negative),
+            ..gate.with_renamed_controls(table)
         }
     }
 
