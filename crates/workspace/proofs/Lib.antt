@@ -40,3 +40,4 @@ pub mod Testing
 pub mod RulesInFrame
 pub mod ReadKeys
 pub mod Shelving
+pub mod Ranges
