@@ -13,7 +13,7 @@ use Rattle.workspace.specs.declared.replacement.SettleRefusal.{SettleRefusal}
 use Rattle.workspace.specs.declared.workspace.Workspace.{Workspace}
 use Rattle.workspace.specs.Templates.{TemplateMeaning}
 use Rattle.workspace.specs.Conditions.{Condition, Sound, Outcome, answer, after, append_outcome, shelve_outcome, withdraw_outcome}
-use Rattle.workspace.specs.Holdings.{condition_of}
+use Rattle.workspace.specs.Holdings.{condition_in}
 use Rattle.workspace.specs.Matching.{OccursIn, shown_of}
 use Rattle.workspace.specs.Sweeps.{Swept, Shortened, SavesSome, SettleOutcome, reported_saved, most_budget, settled_saved}
 
@@ -61,4 +61,4 @@ KeptSettling k rule (Err refusal) now was kept = kept ≡ was
 
 -- what a call promises from the workspace before it to the one after it
 abbrev pub Keeps : {S P : Type 0} → (S → StoreMeaning) → KindMeaning → PolicyMeaning → Workspace S P → Event → Workspace S P → Type 0
-Keeps means k rule old event new = Promised k rule (condition_of means old.holdings) event (condition_of means new.holdings)
+Keeps means k rule old event new = Promised k rule (condition_in means old) event (condition_in means new)

@@ -13,8 +13,8 @@ use stores::Store;
 pub(crate) fn take_out<S: Store>(store: &mut S, first: usize, later: &[usize])
     ensures { S.Store.means store.new ≡ with_gates (S.Store.means store.old) (without (S.Store.means store.old).gates (first ∷ map (λ d. min (first + d) (2 ^ 64 - 1)) later.now)) }
 {
-    for index in (0..later.len()).rev() {
-        let _ = store.remove(first.saturating_add(later[index]));
+    for distance in later.iter().rev() {
+        let _ = store.remove(first.saturating_add(*distance));
     }
     let _ = store.remove(first);
 }

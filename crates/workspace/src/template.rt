@@ -17,14 +17,6 @@ pub const MOST_GATES: usize = 8;
 // How many groups a template lists at most.
 pub const MOST_GROUPS: usize = 3;
 
-// What stands where a table has no gate.
-pub(crate) const BLANK: Gate = Gate {
-    a: 0,
-    b: 0,
-    positive: 0,
-    negative: 0,
-};
-
 // A template that is proposed: any number of lines, gates and groups.
 #[derive(Clone, Copy)]
 pub struct Proposal<'a> {
@@ -48,7 +40,7 @@ impl Template {
     {
         Template {
             lines: 0,
-            gates: FixedList::new(BLANK),
+            gates: FixedList::new(Gate::BLANK),
             groups: FixedList::new(0),
         }
     }
@@ -61,7 +53,7 @@ impl Template {
     {
         Template {
             lines: proposal.lines,
-            gates: FixedList::of(proposal.gates, BLANK),
+            gates: FixedList::of(proposal.gates, Gate::BLANK),
             groups: FixedList::of(proposal.groups, 0),
         }
     }
