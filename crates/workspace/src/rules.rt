@@ -35,7 +35,7 @@ pub(super) fn check_gates<K: GateKind>(proposal: &Proposal) -> Result<(), GateRe
 
 // Whether there are at most three groups, each of at least two positions of the template.
 pub(super) fn are_groups_sound(proposal: &Proposal) -> bool
-    requires { length proposal.now.gates.now ≤ 8 }
+    requires { length proposal.now.gates.now ≤ MOST_GATES }
     ensures { result ≡ groups_test (proposed proposal.now) }
 {
     let size = proposal.gates.len();
@@ -48,8 +48,8 @@ pub(super) fn are_groups_sound(proposal: &Proposal) -> bool
 
 // Whether the gates in none of the selected groups restore every state of the template's lines.
 fn does_part_restore<K: GateKind>(proposal: &Proposal, selection: PositionSet) -> bool
-    requires few_lines { proposal.now.lines ≤ 4 }
-    requires few_gates { length proposal.now.gates.now ≤ 8 }
+    requires few_lines { proposal.now.lines ≤ MOST_LINES }
+    requires few_gates { length proposal.now.gates.now ≤ MOST_GATES }
     ensures { result ≡ restores_test K.means proposal.now.lines (unselected (bit selection) (proposed proposal.now)) }
 {
     let chosen = positions::outside_selected(proposal.groups, selection);
@@ -58,8 +58,8 @@ fn does_part_restore<K: GateKind>(proposal: &Proposal, selection: PositionSet) -
 
 // Whether the whole template restores every state of its lines.
 pub(super) fn does_whole_restore<K: GateKind>(proposal: &Proposal) -> bool
-    requires few_lines { proposal.now.lines ≤ 4 }
-    requires few_gates { length proposal.now.gates.now ≤ 8 }
+    requires few_lines { proposal.now.lines ≤ MOST_LINES }
+    requires few_gates { length proposal.now.gates.now ≤ MOST_GATES }
     ensures { result ≡ whole_test K.means (proposed proposal.now) }
 {
     does_part_restore::<K>(proposal, 0)
@@ -67,9 +67,9 @@ pub(super) fn does_whole_restore<K: GateKind>(proposal: &Proposal) -> bool
 
 // Whether, for every selection of the groups, the gates in none of the selected do.
 pub(super) fn do_selections_restore<K: GateKind>(proposal: &Proposal) -> bool
-    requires few_lines { proposal.now.lines ≤ 4 }
-    requires few_gates { length proposal.now.gates.now ≤ 8 }
-    requires few_groups { length proposal.now.groups.now ≤ 3 }
+    requires few_lines { proposal.now.lines ≤ MOST_LINES }
+    requires few_gates { length proposal.now.gates.now ≤ MOST_GATES }
+    requires few_groups { length proposal.now.groups.now ≤ MOST_GROUPS }
     ensures { result ≡ selections_test K.means (proposed proposal.now) }
 {
     (0..1u32 << proposal.groups.len()).all(|selection| does_part_restore::<K>(proposal, selection))

@@ -1,10 +1,10 @@
 // The shelf: a list of at most 64 templates, each with the count of its replacements.
-ghost use Rattle.std.specs.Prelude.{◌≡◌, ◌<◌, ◌≤◌, [], IfNone, IfSome, length, slice_get, slice_index_or, slice_set};
+ghost use Rattle.std.specs.Prelude.{◌≡◌, ◌<◌, ◌≤◌, [], IfNone, IfSome, length, slice_get};
 ghost use Rattle.std.specs.Option.{option_map};
 ghost use Rattle.fixed_list.specs.Lists.{push_outcome, pushed, removed};
-ghost use Rattle.workspace.specs.Conditions.{counted_once, entry, no_entry};
+ghost use Rattle.workspace.specs.Conditions.{counted_once, entry};
 ghost use Rattle.workspace.specs.Proposals.{template_of};
-ghost use Rattle.workspace.specs.Shelves.{entries_of, entry_of};
+ghost use Rattle.workspace.specs.Shelves.{counted_at, entries_of, entry_of, listed_template};
 
 use super::Template;
 use super::entry::Entry;
@@ -51,7 +51,7 @@ impl Shelf {
     // The number of entries.
     pub(crate) fn count(&self) -> usize
         ensures is { result ≡ length (entries_of self.now) }
-        ensures few { result ≤ 64 }
+        ensures few { result ≤ MOST_ENTRIES }
     {
         self.entries.len()
     }
@@ -59,14 +59,14 @@ impl Shelf {
     // The template of an entry.
     pub(crate) fn template(&self, number: usize) -> &Template
         requires { number < length (entries_of self.now) }
-        ensures { template_of result.now ≡ (slice_index_or (entries_of self.now) number no_entry).template }
+        ensures { template_of result.now ≡ listed_template self.now number }
     {
         &self.entries.as_slice()[number].template
     }
 
     // The template of an entry, where there is one of that number.
     pub(crate) fn template_at(&self, number: usize) -> Option<&Template>
-        ensures some { IfSome result (λ t. (number < length (entries_of self.now)) × (template_of t.now ≡ (slice_index_or (entries_of self.now) number no_entry).template)) }
+        ensures some { IfSome result (λ t. (number < length (entries_of self.now)) × (template_of t.now ≡ listed_template self.now number)) }
         ensures none { IfNone result (length (entries_of self.now) ≤ number) }
     {
         let entry = self.entries.as_slice().get(number)?;
@@ -83,15 +83,15 @@ impl Shelf {
 
     // Counts one more replacement for an entry, where there is one of that number.
     pub(crate) fn count_one(&mut self, number: usize)
-        ensures { entries_of self.new ≡ slice_set (entries_of self.old) number (counted_once (slice_index_or (entries_of self.old) number no_entry)) }
+        ensures { entries_of self.new ≡ counted_at (entries_of self.old) number }
     {
         self.entries.change(number, |entry| entry.count_one());
     }
 
     // Puts a template behind the others, its count 0, where there is room.
     pub(crate) fn push(&mut self, template: Template) -> Result<(), Full>
-        ensures answers { result ≡ push_outcome 64 (entries_of self.old) }
-        ensures leaves { entries_of self.new ≡ pushed 64 (entries_of self.old) (entry (template_of template) 0) }
+        ensures answers { result ≡ push_outcome MOST_ENTRIES (entries_of self.old) }
+        ensures leaves { entries_of self.new ≡ pushed MOST_ENTRIES (entries_of self.old) (entry (template_of template) 0) }
     {
         self.entries.push(Entry::new(template))
     }

@@ -47,8 +47,8 @@ impl Template {
 
     // What is proposed, held.
     pub(super) fn holding(proposal: &Proposal) -> Template
-        requires few_gates { length proposal.now.gates.now ≤ 8 }
-        requires few_groups { length proposal.now.groups.now ≤ 3 }
+        requires few_gates { length proposal.now.gates.now ≤ MOST_GATES }
+        requires few_groups { length proposal.now.groups.now ≤ MOST_GROUPS }
         ensures { template_of result ≡ proposed proposal.now }
     {
         Template {
@@ -68,7 +68,7 @@ impl Template {
     // The number of its gates.
     pub(crate) fn size(&self) -> usize
         ensures is { result ≡ length (template_of self.now).gates }
-        ensures few { result ≤ 8 }
+        ensures few { result ≤ MOST_GATES }
     {
         self.gates.len()
     }
