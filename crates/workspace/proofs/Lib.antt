@@ -6,7 +6,6 @@ pub mod GroupSets
 pub mod Deciding
 pub mod Stepping
 pub mod DecidingTurns
-pub mod Entries
 pub mod Calling
 pub mod Occurring
 pub mod DecidingOccurrences
@@ -40,3 +39,5 @@ pub mod Choosing
 pub mod Testing
 pub mod RulesInFrame
 pub mod ReadKeys
+pub mod Shelving
+pub mod Ranges

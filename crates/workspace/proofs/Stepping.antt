@@ -1,12 +1,13 @@
 -- One step more in a loop over groups, gates or states.
-use Rattle.std.proofs.Common.{◌≡◌, ℕ, suc, ◌+◌, ◌-◌, ◌^◌, ◌<◌, ◌≤◌, Bool, true, false, cond, not, ◌&&◌, ◌||◌, ◌⊎◌, List, [], ◌∷◌, length, get_or, drop, sym, refl, ap, ◌∙◌, ap₂, inl, inr, arith}
+use Rattle.std.proofs.Common.{◌≡◌, ℕ, suc, ◌+◌, ◌-◌, ◌^◌, ◌<◌, ◌≤◌, Bool, true, false, cond, eqb, not, ◌&&◌, ◌||◌, ◌⊎◌, List, [], ◌∷◌, length, get_or, drop, sym, refl, ap, ◌∙◌, ap₂, inl, inr, arith}
 use mathlib.Core.Path.{fun_ext}
 use lib.Bits.{bit_or}
 use Rattle.std.proofs.lemmas.Nat.{or_lt}
 use Rattle.std.proofs.lemmas.List.{at_drop_more, at_drop_all}
-use Rattle.std.proofs.lemmas.Bool.{cases_order, both_ways}
+use Rattle.std.proofs.lemmas.Bool.{cases_order, both_ways, eq-eqb, eqb-true}
 use Rattle.gates.specs.declared.gate.Gate.{Gate}
 use Rattle.gates.specs.Lines.{State, width, bit, where_below, every_below}
+use Rattle.gates.specs.ControlSets.{iff_same}
 use Rattle.gates.specs.Kinds.{KindMeaning}
 use Rattle.gates.specs.Cascades.{run, picked}
 use Rattle.gates.specs.Members.{bit_none, set_ext, bit_where, where_lt, every_at, every_of}
@@ -151,15 +152,10 @@ every_fails n i P lt e = at (every_below n P) refl
     at false h = h
 
 -- numbers as states: they agree where they are equal
-pub agree_same : (r x : ℕ) (s : State) → bit r ≡ s → r ≡ x → agree s (bit x) ≡ true
-agree_same r x s is e = agree_of s (bit x) (sym is ∙ ap bit e)
-
-pub agree_other : (r x : ℕ) (s : State) → r < 2 ^ width → x < 2 ^ width → bit r ≡ s → (r ≡ x → ⊥) → agree s (bit x) ≡ false
-agree_other r x s lr lx is ne = at (agree s (bit x)) refl
-  where
-    at : (b : Bool) → agree s (bit x) ≡ b → agree s (bit x) ≡ false
-    at true h = absurd (ne (set_ext width r x lr lx (λ i lt. ap (λ (u : State). u i) is ∙ agree_at s (bit x) h i lt)))
-    at false h = h
+pub agree_tested : (r x : ℕ) (s : State) → r < 2 ^ width → x < 2 ^ width → bit r ≡ s → eqb r x ≡ agree s (bit x)
+agree_tested r x s lr lx is =
+    iff_same _ _ (λ same. agree_of s (bit x) (sym is ∙ ap bit (eqb-true r x same)))
+    (λ agreed. eq-eqb r x (set_ext width r x lr lx (λ i lt. ap (λ (u : State). u i) is ∙ agree_at s (bit x) agreed i lt)))
 
 -- whether all elements from place i on pass
 module _ {X : Type 0} (test : X → Bool) (xs : List X) (i : ℕ) (d : X) (lt : i < length xs) where

@@ -1,29 +1,30 @@
 -- What a search and the replacement of what it found come to.
-use Rattle.std.proofs.Common.{◌≡◌, ℕ, ◌≤◌, List, [], length, Some, None, Option, sym, refl, ap, ◌∙◌, subst, arith}
+use Rattle.std.proofs.Common.{◌≡◌, ℕ, ◌≤◌, List, [], length, take, Some, None, Option, sym, refl, ap, ◌∙◌, subst, arith}
+use Rattle.std.proofs.lemmas.List.{length-map, length-take}
 use Rattle.gates.specs.Kinds.{KindMeaning, KindLaws}
-use Rattle.stores.specs.Stores.{Bounded}
+use Rattle.stores.specs.Stores.{Bounded, StoreMeaning}
 use Rattle.search.specs.Keys.{ShownIn}
 use Rattle.search.specs.Listing.{Chosen, StartsFrom}
 use Rattle.search.specs.Policy.{PolicyMeaning, scan, opening}
-use Rattle.workspace.specs.declared.entry.Entry.{Entry}
+use Rattle.workspace.specs.declared.holdings.Holdings.{Holdings}
 use Rattle.workspace.specs.declared.replacement.Replacement.{Replacement}
 use Rattle.workspace.specs.Conditions.{Condition, Sound}
+use Rattle.workspace.specs.Holdings.{condition_of}
 use Rattle.workspace.specs.Matching.{OccursIn, Searchable, shown_of}
 use Rattle.workspace.specs.Promises.{SweepPromise, KeptAfter}
 use Rattle.workspace.specs.Sweeps.{Replaced, Done, NothingOccurs}
 use Rattle.workspace.proofs.DecidingOccurrences.{decides_occurrences}
-use Rattle.workspace.specs.Shelves.{entries_of}
-use Rattle.workspace.proofs.Entries.{entries_long}
+use Rattle.workspace.specs.Shelves.{entry_of}
 use Rattle.workspace.proofs.Keying.{keys_fit}
 use Rattle.workspace.proofs.Sweeping.{replaced_shortens, unshortened}
 
--- a sound condition can be searched
-pub searchable : (k : KindMeaning) (c : Condition) → Bounded c.store → length c.shelf ≤ 64 → Sound k c → Searchable k c
-searchable k c bounded few sound = record { sound = sound; fits = keys_fit k c sound bounded few; decides = decides_occurrences k c.store.lines c.store.gates c.shelf }
-
--- a shelf in memory has at most 64 entries
-pub few_entries : (entries : List Entry) (count : ℕ) → length entries ≡ 64 → count ≤ 64 → length (entries_of entries count) ≤ 64
-few_entries entries count wide few = omega (arith, entries_long entries count (omega arith))
+-- a sound workspace can be searched: a store is bounded, and a shelf has at most 64 entries
+pub ready : {S : Type 0} (k : KindMeaning) (means : S → StoreMeaning) → ((s : S) → Bounded (means s)) → (h : Holdings S) → Sound k (condition_of means h) → Searchable k (condition_of means h)
+ready k means bounded h sound =
+    let list = h.shelf.entries in
+    let c = condition_of means h in
+    let few : length c.shelf ≤ 64 = omega (arith, length-map (take list.count list.items) entry_of, length-take list.count list.items, list.few) in
+    record { sound = sound; fits = keys_fit k c sound (bounded h.store) few; decides = decides_occurrences k c.store.lines c.store.gates c.shelf }
 
 -- from 0 on there is every first number
 pub from_none : (P : List ℕ → Type 0) → StartsFrom P 0

@@ -3,14 +3,17 @@ use Rattle.std.specs.Prelude.{◌≡◌, ℕ, List, [], is_ok, Ok, Err, Option, 
 use Rattle.gates.specs.declared.gate.Gate.{Gate}
 use Rattle.gates.specs.Kinds.{KindMeaning}
 use Rattle.stores.specs.declared.refusal.StoreRefusal.{StoreRefusal}
+use Rattle.stores.specs.Stores.{StoreMeaning}
 use Rattle.search.specs.Keys.{ShownIn}
 use Rattle.search.specs.Policy.{PolicyMeaning, scan, opening}
 use Rattle.workspace.specs.declared.refusal.TemplateRefusal.{TemplateRefusal}
 use Rattle.workspace.specs.declared.replacement.Replacement.{Replacement}
 use Rattle.workspace.specs.declared.replacement.Settling.{Settling}
 use Rattle.workspace.specs.declared.replacement.SettleRefusal.{SettleRefusal}
+use Rattle.workspace.specs.declared.workspace.Workspace.{Workspace}
 use Rattle.workspace.specs.Templates.{TemplateMeaning}
 use Rattle.workspace.specs.Conditions.{Condition, Sound, Outcome, answer, after, append_outcome, shelve_outcome, withdraw_outcome}
+use Rattle.workspace.specs.Holdings.{condition_in}
 use Rattle.workspace.specs.Matching.{OccursIn, shown_of}
 use Rattle.workspace.specs.Sweeps.{Swept, Shortened, SavesSome, SettleOutcome, reported_saved, most_budget, settled_saved}
 
@@ -55,3 +58,7 @@ KeptAfter k rule c kept = (os : List (List ℕ)) → ShownIn (OccursIn k c) [] o
 abbrev pub KeptSettling : KindMeaning → PolicyMeaning → Result Settling SettleRefusal → Condition → List ℕ → List ℕ → Type 0
 KeptSettling k rule (Ok answer) now was kept = KeptAfter k rule now kept
 KeptSettling k rule (Err refusal) now was kept = kept ≡ was
+
+-- what a call promises from the workspace before it to the one after it
+abbrev pub Keeps : {S P : Type 0} → (S → StoreMeaning) → KindMeaning → PolicyMeaning → Workspace S P → Event → Workspace S P → Type 0
+Keeps means k rule old event new = Promised k rule (condition_in means old) event (condition_in means new)

@@ -1,13 +1,24 @@
 -- The shelf that a value in memory holds.
-use Rattle.std.specs.Prelude.{ℕ, List, map, take}
+use Rattle.std.specs.Prelude.{ℕ, List, map, slice_index_or, slice_set}
+use Rattle.fixed_list.specs.Lists.{contents}
 use Rattle.workspace.specs.declared.entry.Entry.{Entry}
+use Rattle.workspace.specs.declared.shelf.Shelf.{Shelf}
 use Rattle.workspace.specs.Proposals.{template_of}
-use Rattle.workspace.specs.Conditions.{EntryMeaning, entry}
+use Rattle.workspace.specs.Templates.{TemplateMeaning}
+use Rattle.workspace.specs.Conditions.{EntryMeaning, entry, counted_once, no_entry}
 
 -- the entry that a value holds
 abbrev pub entry_of : Entry → EntryMeaning
 entry_of e = entry (template_of e.template) e.replacements
 
--- as many entries of a table as are counted
-abbrev pub entries_of : List Entry → ℕ → List EntryMeaning
-entries_of entries count = map entry_of (take count entries)
+-- the entries of the shelf, in order
+abbrev pub entries_of : Shelf → List EntryMeaning
+entries_of s = map entry_of (contents s.entries)
+
+-- the template of the entry of that number
+abbrev pub listed_template : Shelf → ℕ → TemplateMeaning
+listed_template s number = (slice_index_or (entries_of s) number no_entry).template
+
+-- the entries after one more replacement by the entry of that number
+abbrev pub counted_at : List EntryMeaning → ℕ → List EntryMeaning
+counted_at entries number = slice_set entries number (counted_once (slice_index_or entries number no_entry))

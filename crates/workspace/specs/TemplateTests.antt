@@ -1,6 +1,7 @@
 -- The tests that decide whether a template meets the rules, in the order in which they are tried.
-use Rattle.std.specs.Prelude.{◌≡◌, ℕ, ◌^◌, Bool, true, false, ◌&&◌, List, [], ◌∷◌, length, Some, None, Decides, Option, count_ones, nat_le, nat_lt}
+use Rattle.std.specs.Prelude.{◌≡◌, ℕ, ◌^◌, Bool, true, false, ◌&&◌, List, length, Some, None, Decides, Option, count_ones, nat_le, nat_lt}
 use Rattle.std.specs.Bool.{beq}
+use Rattle.std.specs.List.{list_all}
 use Rattle.gates.specs.declared.gate.Gate.{Gate}
 use Rattle.gates.specs.declared.gate.GateRefusal.TheVariants.{NotWellFormed}
 use Rattle.gates.specs.Lines.{State, width, bit, every_below}
@@ -12,8 +13,7 @@ use Rattle.workspace.specs.Templates.{TemplateMeaning, size, unselected, LinesRu
 
 -- every element passes
 abbrev pub all_pass : {X : Type 0} → (X → Bool) → List X → Bool
-all_pass test [] = true
-all_pass test (x ∷ xs) = test x && all_pass test xs
+all_pass test xs = list_all test xs
 
 -- one to four lines
 abbrev pub lines_test : TemplateMeaning → Bool
@@ -25,7 +25,7 @@ size_test t = nat_le 2 (size t) && nat_le (size t) 8
 
 -- every gate is well formed for the template's lines
 abbrev pub gates_test : KindMeaning → TemplateMeaning → Bool
-gates_test k t = all_pass (k.form t.lines) t.gates
+gates_test k t = list_all (k.form t.lines) t.gates
 
 -- at least two positions, all of them below m
 abbrev pub group_test : ℕ → ℕ → Bool
@@ -33,7 +33,7 @@ group_test m group = nat_le 2 (count_ones group) && nat_lt group (2 ^ m)
 
 -- at most three groups, each of which passes
 abbrev pub groups_test : TemplateMeaning → Bool
-groups_test t = nat_le (length t.groups) 3 && all_pass (group_test (size t)) t.groups
+groups_test t = nat_le (length t.groups) 3 && list_all (group_test (size t)) t.groups
 
 -- the states are equal on all lines that a state in memory has
 abbrev pub agree : State → State → Bool

@@ -5,31 +5,29 @@ ghost use Rattle.workspace.specs.Proposals.{proposed, template_of};
 ghost use Rattle.workspace.specs.TemplateTests.{AnswersRules, RuleLaws, template_test};
 
 use super::{Proposal, Template, TemplateRefusal, rules};
-use gates::{GateKind, GateRefusal};
+use gates::GateKind;
 
-// Why the proposal is refused, if it is: the first rule that it breaks.
-fn find_refusal<K: GateKind>(proposal: &Proposal) -> Option<TemplateRefusal>
-    ensures { result ≡ template_test K.means (proposed proposal.now) }
+// Refuses the proposal for the first rule that it breaks.
+fn check_rules<K: GateKind>(proposal: &Proposal) -> Result<(), TemplateRefusal>
+    ensures { result_err result ≡ template_test K.means (proposed proposal.now) }
 {
     if !rules::are_lines_few(proposal) {
-        return Some(TemplateRefusal::Lines);
+        return Err(TemplateRefusal::Lines);
     }
     if !rules::are_gates_few(proposal) {
-        return Some(TemplateRefusal::Size);
+        return Err(TemplateRefusal::Size);
     }
-    if !rules::are_gates_well_formed::<K>(proposal) {
-        return Some(TemplateRefusal::Gate(GateRefusal::NotWellFormed));
-    }
+    rules::check_gates::<K>(proposal)?;
     if !rules::are_groups_sound(proposal) {
-        return Some(TemplateRefusal::Groups);
+        return Err(TemplateRefusal::Groups);
     }
     if !rules::does_whole_restore::<K>(proposal) {
-        return Some(TemplateRefusal::Whole);
+        return Err(TemplateRefusal::Whole);
     }
     if !rules::do_selections_restore::<K>(proposal) {
-        return Some(TemplateRefusal::Selection);
+        return Err(TemplateRefusal::Selection);
     }
-    None
+    Ok(())
 }
 
 // The template that is proposed, where it meets the rules; else the refusal of the first rule that it breaks.
@@ -38,10 +36,8 @@ pub fn check_proposal<K: GateKind>(proposal: &Proposal) -> Result<Template, Temp
     ensures holds { IfOk result (λ t. template_of t ≡ proposed proposal.now) }
     ensures lawful { AnswersRules K.means (proposed proposal.now) (result_err result) }
 {
-    match find_refusal::<K>(proposal) {
-        Some(refusal) => Err(refusal),
-        None => Ok(Template::holding(proposal)),
-    }
+    check_rules::<K>(proposal)?;
+    Ok(Template::holding(proposal))
 }
 
 // The laws of the rules: each test decides its rule, for every kind.

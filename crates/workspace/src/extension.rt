@@ -15,7 +15,6 @@ use super::frame::Frame;
 use super::named::Named;
 use super::posed::{Member, Posed};
 use super::posing::pose;
-use super::template::BLANK;
 use super::{PositionSet, Template};
 use gates::{Gate, GateKind, Sign};
 
@@ -62,7 +61,7 @@ pub(crate) fn find_gate(frame: &Frame, distance: usize) -> Gate
     ensures { result ≡ slice_index_or (take frame.now.count frame.now.gates) distance (gate 0 0 0 0) }
 {
     if distance >= frame.count {
-        return BLANK;
+        return Gate::BLANK;
     }
     frame.gates[distance]
 }

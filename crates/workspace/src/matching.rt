@@ -8,9 +8,8 @@ use super::notes::Note;
 use super::occurs::is_occurrence;
 use super::posed::{Member, Posed};
 use super::start::{Start, start_at};
-use super::template::BLANK;
 use super::{Holdings, levels, noting};
-use gates::LineSet;
+use gates::{Gate, LineSet};
 use search::{Key, Problem, Shown, candidates};
 use stores::Store;
 
@@ -48,7 +47,7 @@ impl<S: Store> Problem for Holdings<S> {
             posed: Posed {
                 members: [Member {
                     position: 0,
-                    gate: BLANK,
+                    gate: Gate::BLANK,
                 }; 8],
                 count: 0,
             },

@@ -58,8 +58,8 @@ fn meets_rules<K: GateKind>(frame: &Frame, lines: u8, template: &Template, named
 // Whether the key is that of an occurrence of a template on the shelf, in gates of which the frame has those from the key's first place on.
 pub(crate) fn is_occurrence<K: GateKind>(frame: &Frame, lines: u8, shelf: &Shelf, key: &Key) -> bool
     ensures { (gates : List Gate) → take frame.now.count frame.now.gates ≡ frame_at gates (slice_index (keyed key.now) 0)
-        → AllByRecursion (λ (e : EntryMeaning). MeetsRules K.means e.template) (entries_of shelf.now.entries shelf.now.count) → lines ≤ 32
-        → result ≡ occurs_test K.means lines gates (entries_of shelf.now.entries shelf.now.count) (keyed key.now) }
+        → AllByRecursion (λ (e : EntryMeaning). MeetsRules K.means e.template) (entries_of shelf.now) → lines ≤ 32
+        → result ≡ occurs_test K.means lines gates (entries_of shelf.now) (keyed key.now) }
 {
     let number = key.at(1) as usize;
     if number >= shelf.count() {

@@ -5,13 +5,13 @@ ghost use Rattle.workspace.specs.TemplateTests.{group_test};
 ghost use Rattle.workspace.specs.Templates.{outside_selected};
 
 use super::PositionSet;
-use gates::{WIDTH, sets};
+use gates::sets;
 
 // Whether the position is in the set; one that no set can have is not.
 pub(super) fn has_position(set: PositionSet, position: usize) -> bool
     ensures { result ≡ bit set position }
 {
-    position < WIDTH as usize && sets::has_line(set, position as u8)
+    u8::try_from(position).is_ok_and(|line| sets::has_line(set, line))
 }
 
 // Whether the set is a group of a template with so many gates: at least two positions, none beyond.

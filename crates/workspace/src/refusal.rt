@@ -1,4 +1,7 @@
 // Why a template, or a request to the shelf, is refused.
+ghost use Rattle.std.specs.Prelude.{◌≡◌};
+ghost use Rattle.workspace.specs.declared.refusal.TemplateRefusal.TheVariants.{Gate};
+
 use gates::GateRefusal;
 
 // The reasons, each with its number below.
@@ -20,4 +23,13 @@ pub enum TemplateRefusal {
     ShelfFull,
     // The shelf has no entry of that number.
     NoSuchEntry,
+}
+
+// The refusal of one of the template's gates.
+impl From<GateRefusal> for TemplateRefusal {
+    ghost from_gives = { λ refusal r. r ≡ Gate refusal };
+
+    fn from(refusal: GateRefusal) -> TemplateRefusal {
+        TemplateRefusal::Gate(refusal)
+    }
 }

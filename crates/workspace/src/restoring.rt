@@ -2,7 +2,7 @@
 ghost use Rattle.std.specs.Prelude.{◌≡◌, ◌≤◌};
 ghost use Rattle.gates.specs.Cascades.{picked, run};
 ghost use Rattle.gates.specs.Lines.{bit};
-ghost use Rattle.workspace.specs.TemplateTests.{restores_test};
+ghost use Rattle.workspace.specs.TemplateTests.{agree, restores_test};
 
 use super::{PositionSet, positions};
 use gates::{Gate, GateKind, LineSet};
@@ -20,15 +20,17 @@ fn run_chosen<K: GateKind>(gates: &[Gate], chosen: PositionSet, state: LineSet) 
     reached
 }
 
-// Whether the gates at the chosen positions, in order, restore each state of so many lines.
+// Whether the gates at the chosen positions, in order, restore this state.
+fn is_restored<K: GateKind>(gates: &[Gate], chosen: PositionSet, state: LineSet) -> bool
+    ensures { result ≡ agree (run K.means (picked (bit chosen) gates.now) (bit state)) (bit state) }
+{
+    run_chosen::<K>(gates, chosen, state) == state
+}
+
+// Whether they restore each state of so many lines.
 pub(super) fn do_chosen_restore<K: GateKind>(gates: &[Gate], chosen: PositionSet, lines: u8) -> bool
     requires { lines ≤ 4 }
     ensures { result ≡ restores_test K.means lines (picked (bit chosen) gates.now) }
 {
-    for state in 0..1u32 << lines {
-        if run_chosen::<K>(gates, chosen, state) != state {
-            return false;
-        }
-    }
-    true
+    (0..1u32 << lines).all(|state| is_restored::<K>(gates, chosen, state))
 }

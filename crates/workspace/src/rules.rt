@@ -1,76 +1,76 @@
 // The rules that a template meets, each with its test.
-ghost use Rattle.std.specs.Prelude.{◌≡◌, ◌≤◌, length};
+ghost use Rattle.std.specs.Prelude.{◌≡◌, ◌≤◌, if◌then◌else◌, length};
+ghost use Rattle.gates.specs.Lines.{bit};
 ghost use Rattle.workspace.specs.Proposals.{proposed};
-ghost use Rattle.workspace.specs.TemplateTests.{gates_test, groups_test, lines_test, selections_test, size_test, whole_test};
+ghost use Rattle.workspace.specs.Templates.{unselected};
+ghost use Rattle.workspace.specs.TemplateTests.{gates_test, groups_test, lines_test, restores_test, selections_test, size_test, whole_test};
 
 use super::template::{MOST_GATES, MOST_GROUPS, MOST_LINES};
-use super::{Proposal, positions, restoring};
-use gates::GateKind;
+use super::{PositionSet, Proposal, positions, restoring};
+use gates::{GateKind, GateRefusal, check_gate};
 
 // Whether there are one to four lines.
 pub(super) fn are_lines_few(proposal: &Proposal) -> bool
     ensures { result ≡ lines_test (proposed proposal.now) }
 {
-    1 <= proposal.lines && proposal.lines <= MOST_LINES
+    (1..=MOST_LINES).contains(&proposal.lines)
 }
 
 // Whether there are two to eight gates.
 pub(super) fn are_gates_few(proposal: &Proposal) -> bool
     ensures { result ≡ size_test (proposed proposal.now) }
 {
-    2 <= proposal.gates.len() && proposal.gates.len() <= MOST_GATES
+    (2..=MOST_GATES).contains(&proposal.gates.len())
 }
 
-// Whether every gate is well formed for the template's lines.
-pub(super) fn are_gates_well_formed<K: GateKind>(proposal: &Proposal) -> bool
-    ensures { result ≡ gates_test K.means (proposed proposal.now) }
+// Refuses a template of which a gate is not well formed for its lines.
+pub(super) fn check_gates<K: GateKind>(proposal: &Proposal) -> Result<(), GateRefusal>
+    ensures { result ≡ if gates_test K.means (proposed proposal.now) then Ok tt else Err GateRefusal.NotWellFormed }
 {
     for gate in proposal.gates {
-        if !K::is_well_formed(*gate, proposal.lines) {
-            return false;
-        }
+        check_gate::<K>(*gate, proposal.lines)?;
     }
-    true
+    Ok(())
 }
 
 // Whether there are at most three groups, each of at least two positions of the template.
 pub(super) fn are_groups_sound(proposal: &Proposal) -> bool
-    requires { length proposal.now.gates.now ≤ 8 }
+    requires { length proposal.now.gates.now ≤ MOST_GATES }
     ensures { result ≡ groups_test (proposed proposal.now) }
 {
-    if proposal.groups.len() > MOST_GROUPS {
-        return false;
-    }
-    for group in proposal.groups {
-        if !positions::is_group(*group, proposal.gates.len()) {
-            return false;
-        }
-    }
-    true
+    let size = proposal.gates.len();
+    proposal.groups.len() <= MOST_GROUPS
+        && proposal
+            .groups
+            .iter()
+            .all(|group| positions::is_group(*group, size))
+}
+
+// Whether the gates in none of the selected groups restore every state of the template's lines.
+fn does_part_restore<K: GateKind>(proposal: &Proposal, selection: PositionSet) -> bool
+    requires few_lines { proposal.now.lines ≤ MOST_LINES }
+    requires few_gates { length proposal.now.gates.now ≤ MOST_GATES }
+    ensures { result ≡ restores_test K.means proposal.now.lines (unselected (bit selection) (proposed proposal.now)) }
+{
+    let chosen = positions::outside_selected(proposal.groups, selection);
+    restoring::do_chosen_restore::<K>(proposal.gates, chosen, proposal.lines)
 }
 
 // Whether the whole template restores every state of its lines.
 pub(super) fn does_whole_restore<K: GateKind>(proposal: &Proposal) -> bool
-    requires few_lines { proposal.now.lines ≤ 4 }
-    requires few_gates { length proposal.now.gates.now ≤ 8 }
+    requires few_lines { proposal.now.lines ≤ MOST_LINES }
+    requires few_gates { length proposal.now.gates.now ≤ MOST_GATES }
     ensures { result ≡ whole_test K.means (proposed proposal.now) }
 {
-    let all = positions::outside_selected(proposal.groups, 0);
-    restoring::do_chosen_restore::<K>(proposal.gates, all, proposal.lines)
+    does_part_restore::<K>(proposal, 0)
 }
 
 // Whether, for every selection of the groups, the gates in none of the selected do.
 pub(super) fn do_selections_restore<K: GateKind>(proposal: &Proposal) -> bool
-    requires few_lines { proposal.now.lines ≤ 4 }
-    requires few_gates { length proposal.now.gates.now ≤ 8 }
-    requires few_groups { length proposal.now.groups.now ≤ 3 }
+    requires few_lines { proposal.now.lines ≤ MOST_LINES }
+    requires few_gates { length proposal.now.gates.now ≤ MOST_GATES }
+    requires few_groups { length proposal.now.groups.now ≤ MOST_GROUPS }
     ensures { result ≡ selections_test K.means (proposed proposal.now) }
 {
-    for selection in 0..1u32 << proposal.groups.len() {
-        let chosen = positions::outside_selected(proposal.groups, selection);
-        if !restoring::do_chosen_restore::<K>(proposal.gates, chosen, proposal.lines) {
-            return false;
-        }
-    }
-    true
+    (0..1u32 << proposal.groups.len()).all(|selection| does_part_restore::<K>(proposal, selection))
 }

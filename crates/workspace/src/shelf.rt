@@ -1,12 +1,14 @@
-// The shelf: a table of at most 64 templates, each with the count of its replacements.
-ghost use Rattle.std.specs.Prelude.{◌≡◌, ◌<◌, ◌≤◌, [], ◌∷◌, ◌++◌, length, get_or, slice_index_or, slice_set};
-ghost use Rattle.std.specs.List.{remove};
-ghost use Rattle.workspace.specs.Conditions.{counted_once, entry, no_entry};
+// The shelf: a list of at most 64 templates, each with the count of its replacements.
+ghost use Rattle.std.specs.Prelude.{◌≡◌, ◌<◌, ◌≤◌, [], IfNone, IfSome, length, slice_get};
+ghost use Rattle.std.specs.Option.{option_map};
+ghost use Rattle.fixed_list.specs.Lists.{push_outcome, pushed, removed};
+ghost use Rattle.workspace.specs.Conditions.{counted_once, entry};
 ghost use Rattle.workspace.specs.Proposals.{template_of};
-ghost use Rattle.workspace.specs.Shelves.{entries_of, entry_of};
+ghost use Rattle.workspace.specs.Shelves.{counted_at, entries_of, entry_of, listed_template};
 
 use super::Template;
 use super::entry::Entry;
+use fixed_list::{FixedList, Full};
 
 // The most entries that a shelf has.
 pub const MOST_ENTRIES: usize = 64;
@@ -33,74 +35,72 @@ impl Entry {
 // The entries in the order in which they were shelved; withdrawing one closes the shelf up.
 #[derive(Clone, Copy)]
 pub(crate) struct Shelf {
-    entries: [Entry; 64],
-    count: usize,
-    ghost wide: { length entries ≡ 64 },
-    ghost few: { count ≤ 64 },
+    entries: FixedList<Entry, MOST_ENTRIES>,
 }
 
 impl Shelf {
     // A bare shelf.
     pub(crate) fn new() -> Shelf
-        ensures { entries_of result.entries result.count ≡ [] }
+        ensures { entries_of result ≡ [] }
     {
         Shelf {
-            entries: [Entry::new(Template::blank()); 64],
-            count: 0,
+            entries: FixedList::new(Entry::new(Template::blank())),
         }
     }
 
     // The number of entries.
     pub(crate) fn count(&self) -> usize
-        ensures is { result ≡ length (entries_of self.now.entries self.now.count) }
-        ensures value { result ≡ self.now.count }
-        ensures few { result ≤ 64 }
+        ensures is { result ≡ length (entries_of self.now) }
+        ensures few { result ≤ MOST_ENTRIES }
     {
-        self.count
+        self.entries.len()
     }
 
     // The template of an entry.
     pub(crate) fn template(&self, number: usize) -> &Template
-        requires { number < self.now.count }
-        ensures { template_of result.now ≡ (get_or (entries_of self.now.entries self.now.count) number no_entry).template }
+        requires { number < length (entries_of self.now) }
+        ensures { template_of result.now ≡ listed_template self.now number }
     {
-        &self.entries[number].template
+        &self.entries.as_slice()[number].template
     }
 
-    // How many replacements were made by an entry.
-    pub(crate) fn replacements(&self, number: usize) -> u16
-        requires { number < self.now.count }
-        ensures { result ≡ (get_or (entries_of self.now.entries self.now.count) number no_entry).replacements }
+    // The template of an entry, where there is one of that number.
+    pub(crate) fn template_at(&self, number: usize) -> Option<&Template>
+        ensures some { IfSome result (λ t. (number < length (entries_of self.now)) × (template_of t.now ≡ listed_template self.now number)) }
+        ensures none { IfNone result (length (entries_of self.now) ≤ number) }
     {
-        self.entries[number].replacements
+        let entry = self.entries.as_slice().get(number)?;
+        Some(&entry.template)
     }
 
-    // Counts one more replacement for an entry.
+    // How many replacements were made by an entry, where there is one of that number.
+    pub(crate) fn replacements(&self, number: usize) -> Option<u16>
+        ensures { result ≡ option_map (λ e. e.replacements) (slice_get (entries_of self.now) number) }
+    {
+        let entry = self.entries.as_slice().get(number)?;
+        Some(entry.replacements)
+    }
+
+    // Counts one more replacement for an entry, where there is one of that number.
     pub(crate) fn count_one(&mut self, number: usize)
-        requires { number < self.old.count }
-        ensures { entries_of self.new.entries self.new.count ≡ slice_set (entries_of self.old.entries self.old.count) number (counted_once (slice_index_or (entries_of self.old.entries self.old.count) number no_entry)) }
+        ensures { entries_of self.new ≡ counted_at (entries_of self.old) number }
     {
-        self.entries[number].count_one();
+        self.entries.change(number, |entry| entry.count_one());
     }
 
-    // Puts a template behind the others, its count 0.
-    pub(crate) fn push(&mut self, template: Template)
-        requires { self.old.count < 64 }
-        ensures { entries_of self.new.entries self.new.count ≡ entries_of self.old.entries self.old.count ++ entry (template_of template) 0 ∷ [] }
+    // Puts a template behind the others, its count 0, where there is room.
+    pub(crate) fn push(&mut self, template: Template) -> Result<(), Full>
+        ensures answers { result ≡ push_outcome MOST_ENTRIES (entries_of self.old) }
+        ensures leaves { entries_of self.new ≡ pushed MOST_ENTRIES (entries_of self.old) (entry (template_of template) 0) }
     {
-        self.entries[self.count] = Entry::new(template);
-        self.count += 1;
+        self.entries.push(Entry::new(template))
     }
 
-    // Takes an entry out; those behind it move up.
-    pub(crate) fn remove(&mut self, number: usize)
-        requires { number < self.old.count }
-        ensures { entries_of self.new.entries self.new.count ≡ remove (entries_of self.old.entries self.old.count) number }
+    // Takes an entry out, where there is one of that number; those behind it move up.
+    pub(crate) fn remove(&mut self, number: usize) -> Option<Entry>
+        ensures answers { option_map entry_of result ≡ slice_get (entries_of self.old) number }
+        ensures leaves { entries_of self.new ≡ removed (entries_of self.old) number }
     {
-        let last = self.count - 1;
-        for place in number..last {
-            self.entries[place] = self.entries[place + 1];
-        }
-        self.count = last;
+        self.entries.remove(number)
     }
 }

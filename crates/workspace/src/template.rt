@@ -1,7 +1,8 @@
 // Templates, as they are proposed and as a shelf holds them.
-ghost use Rattle.std.specs.Prelude.{◌≡◌, ◌≤◌, [], length, take};
+ghost use Rattle.std.specs.Prelude.{◌≡◌, ◌≤◌, [], length};
 ghost use Rattle.workspace.specs.Proposals.{proposed, template_of};
 
+use fixed_list::FixedList;
 use gates::Gate;
 
 // A set of positions in a template, position i at the bit of weight 2^i.
@@ -16,14 +17,6 @@ pub const MOST_GATES: usize = 8;
 // How many groups a template lists at most.
 pub const MOST_GROUPS: usize = 3;
 
-// What stands where a table has no gate.
-pub(crate) const BLANK: Gate = Gate {
-    a: 0,
-    b: 0,
-    positive: 0,
-    negative: 0,
-};
-
 // A template that is proposed: any number of lines, gates and groups.
 #[derive(Clone, Copy)]
 pub struct Proposal<'a> {
@@ -36,22 +29,8 @@ pub struct Proposal<'a> {
 #[derive(Clone, Copy)]
 pub struct Template {
     lines: u8,
-    size: usize,
-    gates: [Gate; MOST_GATES],
-    group_count: usize,
-    groups: [PositionSet; MOST_GROUPS],
-}
-
-// An array that begins with the items, and has the blank behind them.
-fn padded<T: Copy, const N: usize>(items: &[T], blank: T) -> [T; N]
-    requires { length items.now ≤ N }
-    ensures { take (length items.now) result ≡ items.now }
-{
-    let mut array = [blank; N];
-    for place in 0..items.len() {
-        array[place] = items[place];
-    }
-    array
+    gates: FixedList<Gate, MOST_GATES>,
+    groups: FixedList<PositionSet, MOST_GROUPS>,
 }
 
 impl Template {
@@ -61,25 +40,21 @@ impl Template {
     {
         Template {
             lines: 0,
-            size: 0,
-            gates: [BLANK; MOST_GATES],
-            group_count: 0,
-            groups: [0; MOST_GROUPS],
+            gates: FixedList::new(Gate::BLANK),
+            groups: FixedList::new(0),
         }
     }
 
     // What is proposed, held.
     pub(super) fn holding(proposal: &Proposal) -> Template
-        requires few_gates { length proposal.now.gates.now ≤ 8 }
-        requires few_groups { length proposal.now.groups.now ≤ 3 }
+        requires few_gates { length proposal.now.gates.now ≤ MOST_GATES }
+        requires few_groups { length proposal.now.groups.now ≤ MOST_GROUPS }
         ensures { template_of result ≡ proposed proposal.now }
     {
         Template {
             lines: proposal.lines,
-            size: proposal.gates.len(),
-            gates: padded(proposal.gates, BLANK),
-            group_count: proposal.groups.len(),
-            groups: padded(proposal.groups, 0),
+            gates: FixedList::of(proposal.gates, Gate::BLANK),
+            groups: FixedList::of(proposal.groups, 0),
         }
     }
 
@@ -93,22 +68,22 @@ impl Template {
     // The number of its gates.
     pub(crate) fn size(&self) -> usize
         ensures is { result ≡ length (template_of self.now).gates }
-        ensures few { result ≤ 8 }
+        ensures few { result ≤ MOST_GATES }
     {
-        self.gates().len()
+        self.gates.len()
     }
 
     // Its gates.
     pub fn gates(&self) -> &[Gate]
         ensures { result.now ≡ (template_of self.now).gates }
     {
-        &self.gates[0..self.size.min(MOST_GATES)]
+        self.gates.as_slice()
     }
 
     // Its listed groups.
     pub fn groups(&self) -> &[PositionSet]
         ensures { result.now ≡ (template_of self.now).groups }
     {
-        &self.groups[0..self.group_count.min(MOST_GROUPS)]
+        self.groups.as_slice()
     }
 }

@@ -2,7 +2,7 @@
 ghost use Rattle.std.specs.Prelude.{◌≡◌, length};
 ghost use Rattle.stores.specs.Stores.{Sound as SoundStore, read_outcome};
 ghost use Rattle.workspace.specs.Conditions.{Sound, opened, replacements_outcome};
-ghost use Rattle.workspace.specs.Holdings.{condition_of};
+ghost use Rattle.workspace.specs.Holdings.{condition_in};
 
 use super::shelf::Shelf;
 use super::{Holdings, TemplateRefusal};
@@ -21,8 +21,8 @@ impl<S: Store, P: Policy> Workspace<S, P> {
     // The workspace on a store, whose gates are the opening gates; the shelf is bare.
     pub fn new(store: S, policy: P) -> Workspace<S, P>
         ensures holds { (result.holdings.store ≡ store) × (result.policy ≡ policy) }
-        ensures opens { condition_of S.Store.means result.holdings ≡ opened (S.Store.means store) }
-        ensures sound { SoundStore S.Kind.GateKind.means (S.Store.means store) → Sound S.Kind.GateKind.means (condition_of S.Store.means result.holdings) }
+        ensures opens { condition_in S.means result ≡ opened (S.means store) }
+        ensures sound { SoundStore S.Kind.means (S.means store) → Sound S.Kind.means (condition_in S.means result) }
     {
         Workspace {
             holdings: Holdings {
@@ -37,49 +37,44 @@ impl<S: Store, P: Policy> Workspace<S, P> {
     pub fn into_parts(self) -> (S, P)
         ensures { (result.0 ≡ self.holdings.store) × (result.1 ≡ self.policy) }
     {
-        let Workspace {
-            holdings: Holdings { store, shelf: _ },
-            policy,
-        } = self;
-        (store, policy)
+        (self.holdings.store, self.policy)
     }
 
     // The number of lines that the gates are on.
     pub fn lines(&self) -> u8
-        ensures { result ≡ (condition_of S.Store.means self.now.holdings).store.lines }
+        ensures { result ≡ (condition_in S.means self.now).store.lines }
     {
         self.holdings.store.lines()
     }
 
     // The number of gates.
     pub fn gate_count(&self) -> usize
-        ensures { result ≡ length (condition_of S.Store.means self.now.holdings).store.gates }
+        ensures { result ≡ length (condition_in S.means self.now).store.gates }
     {
         self.holdings.store.count()
     }
 
     // The gate at a place.
     pub fn gate(&self, place: usize) -> Result<Gate, StoreRefusal>
-        ensures { result ≡ read_outcome (condition_of S.Store.means self.now.holdings).store place }
+        ensures { result ≡ read_outcome (condition_in S.means self.now).store place }
     {
         self.holdings.store.read(place)
     }
 
     // The number of entries on the shelf.
     pub fn entry_count(&self) -> usize
-        ensures { result ≡ length (condition_of S.Store.means self.now.holdings).shelf }
+        ensures { result ≡ length (condition_in S.means self.now).shelf }
     {
         self.holdings.shelf.count()
     }
 
     // How many replacements were made by an entry since it was shelved.
     pub fn replacements(&self, number: usize) -> Result<u16, TemplateRefusal>
-        ensures { result ≡ replacements_outcome (condition_of S.Store.means self.now.holdings) number }
+        ensures { result ≡ replacements_outcome (condition_in S.means self.now) number }
     {
-        if number < self.holdings.shelf.count() {
-            Ok(self.holdings.shelf.replacements(number))
-        } else {
-            Err(TemplateRefusal::NoSuchEntry)
-        }
+        self.holdings
+            .shelf
+            .replacements(number)
+            .ok_or(TemplateRefusal::NoSuchEntry)
     }
 }

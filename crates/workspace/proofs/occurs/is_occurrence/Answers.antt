@@ -12,12 +12,12 @@ use Rattle.workspace.proofs.occurs.is_occurrence.Goals as goal
 
 pub returns-then-number-count : goal.returns-then-number-count
 returns-then-number-count g c gates framed meets few =
-    let shelf = entries_of c.args.shelf.now.entries c.args.shelf.now.count in
+    let shelf = entries_of c.args.shelf.now in
     occurring_listed g.K.GateKind.means c.args.lines gates shelf (keyed c.args.key.now) (omega (arith, c.count.ensures.is, c.at-number.ensures, c.if-number-count.true))
 
 pub returns-in-None : goal.returns-in-None
 returns-in-None g c gates framed meets few =
-    let shelf = entries_of c.args.shelf.now.entries c.args.shelf.now.count in
+    let shelf = entries_of c.args.shelf.now in
     let key = keyed c.args.key.now in
     let lines : (get_or shelf (get_or key 1 0) no_entry).template.lines ≡ c.lines.result =
     ap (λ (i : ℕ). (get_or shelf i no_entry).template.lines) (sym c.at-number.ensures) ∙ ap (λ (t : TemplateMeaning). t.lines) (sym c.template-template.ensures) ∙ sym c.lines.ensures in
@@ -27,7 +27,7 @@ pub returns-in-Some : goal.returns-in-Some
 returns-in-Some g c gates framed meets few =
     let k = g.K.GateKind.means in
     let n = c.args.lines in
-    let shelf = entries_of c.args.shelf.now.entries c.args.shelf.now.count in
+    let shelf = entries_of c.args.shelf.now in
     let key = keyed c.args.key.now in
     let l = c.lines.result in
     let m = c.in-Some.named in

@@ -1,4 +1,4 @@
-use Rattle.std.proofs.Common.{◌≡◌, ℕ, ◌+◌, ◌-◌, ◌^◌, ◌<◌, ◌≤◌, map, length, get_or, take, drop, set, sym, refl, ap, ◌∙◌, ap₂, arith}
+use Rattle.std.proofs.Common.{◌≡◌, ℕ, ◌+◌, ◌-◌, ◌^◌, ◌≤◌, map, length, get_or, take, drop, set, sym, refl, ap, ◌∙◌, ap₂, arith}
 use Rattle.std.proofs.lemmas.List.{length-map, length-take-le}
 use Rattle.stores.specs.Stores.{with_gates}
 use Rattle.workspace.specs.declared.posed.Member.{Member}
@@ -9,7 +9,6 @@ use Rattle.workspace.specs.Matching.{members_of}
 use Rattle.workspace.specs.Naming.{occurrence_of}
 use Rattle.workspace.specs.Occurrences.{places, template_on, after_replacing}
 use Rattle.workspace.proofs.CarryingOut.{carried, members_from, as_many}
-use Rattle.workspace.proofs.Entries.{entries_long}
 use Rattle.workspace.proofs.holdings.Holdings.carry_out.Goals as goal
 use Rattle.workspace.proofs.holdings.Holdings.carry_out.Goals.{then-named-count, else-named-count}
 
@@ -43,11 +42,10 @@ returns g c key sound planned =
     members_from members c.min-chosen.result count within ∙ ap (drop c.min-chosen.result) gates-same ∙ ap (λ (n : ℕ). drop n turned) chosen in
     let stored : g.S.Store.means c.put_inverses.new.store ≡ with_gates before.store (after_replacing k before.store.gates e o is.adds) =
     carried k laws before bounded sound o is (2 ^ 64 - 1) (omega (arith, bounded.fits, bounded.small)) (g.S.Store.means c.take_out.new.store) (g.S.Store.means c.put_inverses.new.store) ds ms later c.take_out.ensures others c.put_inverses.ensures in
-    let listed : named.number < h.shelf.count = omega (arith, is.listed, entries_long h.shelf.entries h.shelf.count (omega (arith, h.shelf.wide, h.shelf.few))) in
     let left : condition_of g.S.Store.means c.if-named-count.self ≡ condition (with_gates before.store (after_replacing k before.store.gates e o is.adds)) (set before.shelf o.number (counted_once (get_or before.shelf o.number no_entry))) =
     elim c.if-named-count.branch [
       | then-named-count w ↦ ap (condition_of g.S.Store.means) w.self-is ∙ ap₂ condition stored w.count_one.ensures
-      | else-named-count w ↦ absurd (let z : ⊥ = omega (arith, w.if-named-count.false, c.count.ensures.value) in z)
+      | else-named-count w ↦ absurd (let z : ⊥ = omega (arith, is.listed, w.if-named-count.false, c.count.ensures.is) in z)
     ] in
     record {
       occurrence = o;

@@ -7,7 +7,7 @@ use Rattle.workspace.specs.Holdings.{condition_of}
 use Rattle.workspace.specs.Matching.{OccursIn, shown_of}
 use Rattle.workspace.proofs.SettlingTurns.{stands_more}
 use Rattle.workspace.proofs.Sweeping.{unshortened}
-use Rattle.workspace.proofs.Swept.{searchable, few_entries, from_none, kept_after, none_occurs}
+use Rattle.workspace.proofs.Swept.{ready, from_none, kept_after, none_occurs}
 use Rattle.workspace.proofs.workspace.Workspace.settle.Goals as goal
 
 pub loop-found-init : goal.loop-found-init
@@ -37,7 +37,7 @@ returns-then-replacements-budget g c =
     let key = keyed c.in-Some.found.key in
     let at = c.loop-found.invariant.1 in
     let all : Sound k before → Chosen (OccursIn k here) (shown_of here.shelf) rule (Some key) kept =
-    λ sound. c.in-Some.ensures.chosen (searchable k here (g.S.Store.bounded h.store) (few_entries h.shelf.entries h.shelf.count h.shelf.wide h.shelf.few) (at sound).shortened.sound) (at sound).below in
+    λ sound. c.in-Some.ensures.chosen (ready k g.S.Store.means g.S.Store.bounded h (at sound).shortened.sound) (at sound).below in
     record {
       refused = tt;
       promised = (
@@ -61,14 +61,14 @@ loop-found-preserved g c =
     let kept = g.P.Policy.kept c.choose.new.policy in
     let key = keyed c.in-Some.found.key in
     let at = c.loop-found.invariant.1 in
-    let ready = λ (sound : Sound k before). searchable k here (g.S.Store.bounded h.store) (few_entries h.shelf.entries h.shelf.count h.shelf.wide h.shelf.few) (at sound).shortened.sound in
-    let all : Sound k before → Chosen (OccursIn k here) (shown_of here.shelf) rule (Some key) kept = λ sound. c.in-Some.ensures.chosen (ready sound) (at sound).below in
+    let searched = λ (sound : Sound k before). ready k g.S.Store.means g.S.Store.bounded h (at sound).shortened.sound in
+    let all : Sound k before → Chosen (OccursIn k here) (shown_of here.shelf) rule (Some key) kept = λ sound. c.in-Some.ensures.chosen (searched sound) (at sound).below in
     let bounded = g.S.Store.bounded c.args.self.now.holdings.store in (
       omega (arith, c.loop-found.invariant.0),
       λ sound.
           stands_more k g.met.S.Kind.GateKind.lawful rule before here now c.loop-found.replacements c.loop-found.saved c.loop-found.from key c.replace-made.result kept c.in-Some.found.lowest _ _ _
           (omega (arith, bounded.fits, bounded.small)) c.saturating_add-saved.ensures (c.min-from.ensures ∙ ap (min c.in-Some.found.lowest) c.saturating_sub.ensures)
-          (at sound) (all sound) (c.in-Some.ensures.lowest (ready sound) (at sound).below) (c.replace-made.ensures (at sound).shortened.sound ((all sound).occurs key refl)),
+          (at sound) (all sound) (c.in-Some.ensures.lowest (searched sound) (at sound).below) (c.replace-made.ensures (at sound).shortened.sound ((all sound).occurs key refl)),
     )
 
 pub returns : goal.returns
@@ -81,7 +81,7 @@ returns g c =
     let kept = g.P.Policy.kept c.choose.new.policy in
     let at = c.loop-found.invariant.1 in
     let all : Sound k before → Chosen (OccursIn k here) (shown_of here.shelf) rule None kept =
-    λ sound. c.in_default.ensures.chosen (searchable k here (g.S.Store.bounded h.store) (few_entries h.shelf.entries h.shelf.count h.shelf.wide h.shelf.few) (at sound).shortened.sound) (at sound).below in
+    λ sound. c.in_default.ensures.chosen (ready k g.S.Store.means g.S.Store.bounded h (at sound).shortened.sound) (at sound).below in
     record {
       refused = tt;
       promised = (
