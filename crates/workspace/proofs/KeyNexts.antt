@@ -4,8 +4,10 @@ use Rattle.std.proofs.ByRecursion.{All-get_or}
 use Rattle.std.proofs.lemmas.List.{length-drop, get_or-drop}
 use Rattle.std.proofs.lemmas.Nat.{pow_below}
 use Rattle.std.proofs.lemmas.Bool.{cases_eq, lt-ltb, le-leb, and_from}
+use Rattle.std.proofs.lemmas.Bool.Decides.{leb_tells}
 use Rattle.gates.specs.Lines.{bit}
 use Rattle.gates.specs.Kinds.{KindMeaning}
+use Rattle.search.specs.Listing.{Whole}
 use Rattle.workspace.specs.Templates.{TemplateMeaning, MeetsRules, size}
 use Rattle.workspace.specs.TurnTests.{has_number_lem}
 use Rattle.workspace.specs.Conditions.{Condition, no_entry, Sound}
@@ -68,6 +70,15 @@ module _ (k : KindMeaning) (c : Condition) (sound : Sound k c) (prefix : List �
           let (o, b, long) = begun_of k c prefix e in
           let lines = ap (λ (x : TemplateMeaning). x.lines) (template_is k c prefix o b (omega arith) t is) in
           absurd (let z : ⊥ = omega (arith, lines, long_is k c prefix o b sound l, long) in z)
+
+  -- so the key is whole just if it is as long as its third number says
+  pub whole_is : 3 ≤ length prefix → (t : TemplateMeaning) → t ≡ (get_or c.shelf (get_or prefix 1 0) no_entry).template → (least long : ℕ) → least ≡ 13 + t.lines
+      → long ≡ length prefix + get_or prefix 2 0 → Whole (occurs_in_test k c) prefix (leb least long)
+  whole_is l t is least long m n = by (leb_tells least long)
+    where
+      by : ((leb least long ≡ true) × (least ≤ long)) ⊎ ((leb least long ≡ false) × (long < least)) → Whole (occurs_in_test k c) prefix (leb least long)
+      by (inl h) = subst (Whole (occurs_in_test k c) prefix) (sym h.0) (no_longer l t is (omega (arith, h.1)))
+      by (inr h) = subst (Whole (occurs_in_test k c) prefix) (sym h.0) (too_short l t is (omega (arith, h.1)))
 
   pub begins_short : length prefix < 6 → occurs_in_test k c prefix ≡ false
   begins_short short = at (occurs_in_test k c prefix) refl

@@ -1,7 +1,7 @@
 -- Notes fit the occurrences whose keys begin with what they were made for, and what comes next is among what they leave.
 use Rattle.std.proofs.Common.{◌≡◌, ℕ, zero, suc, ◌+◌, ◌-◌, ◌<◌, ◌≤◌, min, Bool, true, false, cond, not, ◌&&◌, ◌||◌, eqb, ltb, ◌⊎◌, List, [], ◌∷◌, ◌++◌, length, get_or, take, drop, sym, refl, ap, ◌∙◌, subst, inl, inr, arith}
 use Rattle.std.proofs.ByRecursion.{All-get_or}
-use Rattle.std.proofs.lemmas.List.{append_assoc, length_push, length-drop, length-map, length-take, get_or_at, get_or-drop, get_or-map, get_or-take, get_or-replicate, drop_all, drop-append-le}
+use Rattle.std.proofs.lemmas.List.{append_assoc, get_or_push, length_push, length-drop, length-map, length-take, get_or_at, get_or-drop, get_or-map, get_or-take, get_or-replicate, drop_all, drop-append-le}
 use Rattle.std.proofs.lemmas.Bool.{cases_eq, eq-eqb, ne_eqb, and_from, or_right}
 use Rattle.gates.specs.declared.gate.Gate.{Gate}
 use Rattle.gates.specs.Lines.{bit}
@@ -13,7 +13,7 @@ use Rattle.workspace.specs.declared.posed.Posed.{Posed}
 use Rattle.workspace.specs.Templates.{TemplateMeaning, size}
 use Rattle.workspace.specs.Turns.{Placed, at_position}
 use Rattle.workspace.specs.TurnTests.{has_number_lem}
-use Rattle.workspace.specs.Conditions.{Condition, Sound}
+use Rattle.workspace.specs.Conditions.{Condition, Sound, no_entry}
 use Rattle.workspace.specs.Occurrences.{Occurrence, places, key_of, template_on}
 use Rattle.workspace.specs.Matching.{frame_at, members_of, posed}
 use Rattle.workspace.specs.Notes.{NoteFits, can_stand, blank_member, gate_of_lem, possible, open_reach}
@@ -24,7 +24,7 @@ use Rattle.workspace.proofs.DecidingTurns.{decides_has}
 use Rattle.workspace.proofs.Frames.{distance, distance_near, distance_rises}
 use Rattle.workspace.proofs.Keying.{key_long}
 use Rattle.workspace.proofs.KeyLevels.{Next, within_key, number_at, line_at, distance_at}
-use Rattle.workspace.proofs.KeyNexts.{few_is, meets_rules_lem, line_is, place_inside, distance_is}
+use Rattle.workspace.proofs.KeyNexts.{template_is, few_is, meets_rules_lem, line_is, place_inside, distance_is}
 use Rattle.workspace.proofs.Roles.{pose, pose_long, no_placed, place_covered}
 use Rattle.workspace.proofs.Standing.{some_there, possible_of}
 
@@ -80,6 +80,14 @@ module _ (k : KindMeaning) (c : Condition) (sound : Sound k c) (key prefix : Lis
 
   pub last_in_key : v ≡ get_or (key_of o) (length prefix) 0
   last_in_key = sym (sym (number_at k c key o b (length prefix) (omega (arith, one_more))) ∙ ap (λ (x : List ℕ). get_or x (length prefix) 0) is ∙ get_or_at prefix v [] 0 (length prefix) refl)
+
+  -- what stands last in the key is the number that came last
+  pub last_read : (i last : ℕ) → length key ≡ 7 + i → last ≡ get_or key (6 + i) 0 → last ≡ v
+  last_read i last long at = at ∙ ap (λ (x : List ℕ). get_or x (6 + i) 0) is ∙ get_or_push prefix v 0 (6 + i) (omega (arith, one_more))
+
+  -- the template that the key numbers has the lines of the occurrence's
+  pub lines_same : (t : TemplateMeaning) → 2 ≤ length key → t ≡ (get_or c.shelf (get_or key 1 0) no_entry).template → t.lines ≡ e.lines
+  lines_same t two read = ap (λ (x : TemplateMeaning). x.lines) (template_is k c key o b two t read)
 
   -- the line that was mapped last
   pub line_last : (i : ℕ) → length key ≡ 7 + i → i < e.lines → v ≡ get_or o.turn.table i 0
@@ -161,15 +169,12 @@ module _ (k : KindMeaning) (c : Condition) (sound : Sound k c) (key prefix : Lis
 
 module _ (k : KindMeaning) (c : Condition) (prefix : List ℕ) (o : Occurrence) (b : Begun k c prefix o) where
   -- the distance that was chosen last: that of the first place, or the last number
-  pub last_first : (j last : ℕ) → j ≡ 0 → last ≡ 0 → last ≡ distance o j
-  last_first j last none is = is ∙ (let z : 0 ≡ distance o 0 = omega arith in z) ∙ ap (distance o) (sym none)
-
-  pub last_later : (j at : ℕ) → 0 < j → length prefix ≡ 6 + (template_on c.shelf o).lines + j → at ≡ length prefix - 1 → get_or prefix at 0 ≡ distance o j
-  last_later zero at some long is = absurd (let z : ⊥ = omega arith in z)
-  last_later (suc j) at some long is =
-      let here : at ≡ 6 + (template_on c.shelf o).lines + j = omega arith in
+  pub last_is : (j : ℕ) → length prefix ≡ 6 + (template_on c.shelf o).lines + j → get_or (0 ∷ drop (6 + (template_on c.shelf o).lines) prefix) j 0 ≡ distance o j
+  last_is zero long = let z : 0 ≡ distance o 0 = omega arith in z
+  last_is (suc j) long =
+      let lines = (template_on c.shelf o).lines in
       let inside : j < length o.later = omega (arith, within_key k c prefix o b, key_long k c o b.rules) in
-      number_at k c prefix o b at (omega arith) ∙ ap (λ (i : ℕ). get_or (key_of o) i 0) here ∙ distance_at k c prefix o b j inside
+      get_or-drop (6 + lines) prefix j 0 ∙ number_at k c prefix o b (6 + lines + j) (omega arith) ∙ distance_at k c prefix o b j inside
 
 module _ (k : KindMeaning) (c : Condition) (laws : KindLaws k) (sound : Sound k c) (prefix : List ℕ) (v : ℕ) (n : Next k c prefix v) (note : Note)
     (fits : NoteFits k (template_on c.shelf n.o) prefix note n.o) where

@@ -37,6 +37,7 @@ pub mod KeyNexts
 pub mod KeyNotes
 pub mod Passing
 pub mod Choosing
+pub mod Tables
 pub mod Testing
 pub mod RulesInFrame
 pub mod ReadKeys

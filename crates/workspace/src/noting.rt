@@ -1,11 +1,10 @@
 // Making notes: a template is posed, its lines are mapped one by one, places are chosen one by one.
 ghost use Rattle.std.specs.Prelude.{◌≡◌, ℕ, ◌<◌, ◌≤◌, ◌&&◌, ◌||◌, List, length, ◌==◌, slice_index};
-ghost use Rattle.gates.specs.declared.gate.Gate.{Gate as GateRecord};
 ghost use Rattle.gates.specs.Lines.{bit};
-ghost use Rattle.workspace.specs.Matching.{frame_at, members_of, posed as posed_list};
+ghost use Rattle.workspace.specs.Matching.{members_of, posed as posed_list};
 ghost use Rattle.workspace.specs.Notes.{can_stand, gate_of_lem, open_reach};
 ghost use Rattle.workspace.specs.Proposals.{template_of};
-ghost use Rattle.workspace.specs.Starts.{IsSet, Started};
+ghost use Rattle.workspace.specs.Starts.{IsSet, framed};
 
 use super::Template;
 use super::notes::Note;
@@ -15,7 +14,7 @@ use gates::{Gate, GateKind, LineSet};
 use search::candidates;
 
 // All distances but that of the first place itself.
-const LATER: u64 = 18446744073709551614;
+const LATER: u64 = !1;
 
 // The note of a template as it is posed: the first gate stands at the first place, the others anywhere behind it.
 pub(crate) fn posed_note<K: GateKind>(
@@ -37,17 +36,23 @@ pub(crate) fn posed_note<K: GateKind>(
 }
 
 // The distances of the set at which the image of the gate can stand, where line x is the image of its line.
-pub(crate) fn narrowed_set<K: GateKind>(start: &Start, set: u64, gate: Gate, line: u8, x: u8) -> u64
-    ensures { (gates : List GateRecord) (first : ℕ) → Started K.means gates first start.now → x < 32 → IsSet result (λ d. bit set d && can_stand K.means (frame_at gates first) gate line x d) }
+pub(crate) fn narrowed_set<K: GateKind>(
+    start: &Start<K>,
+    set: u64,
+    gate: Gate,
+    line: u8,
+    x: u8,
+) -> u64
+    ensures { x < 32 → IsSet result (λ d. bit set d && can_stand K.means (framed start.now.frame) gate line x d) }
 {
     set & role_set::<K>(start, gate, line, x)
 }
 
 // The note after line x became the image of the line.
-pub(crate) fn narrowed<K: GateKind>(start: &Start, above: &Note, line: u8, x: u8) -> Note
+pub(crate) fn narrowed<K: GateKind>(start: &Start<K>, above: &Note, line: u8, x: u8) -> Note
     ensures poses { result.posed ≡ above.now.posed }
-    ensures reaches { (j : ℕ) (gates : List GateRecord) (first : ℕ) → j < 8 → Started K.means gates first start.now → x < 32
-        → IsSet (slice_index result.reached j) (λ d. bit (slice_index above.now.reached j) d && can_stand K.means (frame_at gates first) (gate_of_lem above.now j) line x d) }
+    ensures reaches { (j : ℕ) → j < 8 → x < 32
+        → IsSet (slice_index result.reached j) (λ d. bit (slice_index above.now.reached j) d && can_stand K.means (framed start.now.frame) (gate_of_lem above.now j) line x d) }
     ensures chooses { result.chosen ≡ above.now.chosen }
 {
     let mut reached = above.reached;

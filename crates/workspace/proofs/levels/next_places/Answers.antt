@@ -1,9 +1,9 @@
-use Rattle.std.proofs.Common.{Bool, ◌&&◌, get_or, ap, ◌∙◌}
+use Rattle.std.proofs.Common.{◌≡◌, ℕ, ◌&&◌, get_or, ap, ap₂, ◌∙◌}
 use Rattle.gates.specs.Lines.{bit}
 use Rattle.gates.proofs.Masks.{bit-bit_and}
 use Rattle.workspace.proofs.levels.next_places.Goals as goal
 
-pub returns-then-place-lt8 : goal.returns-then-place-lt8
-returns-then-place-lt8 c k gates first started inside i l =
-    let set = get_or c.args.note.now.reached c.args.place 0 in
-    bit-bit_and set c.eligible.result i ∙ ap (λ (b : Bool). bit set i && b) (c.eligible.ensures k gates first started i l)
+pub returns-in-Some : goal.returns-in-Some
+returns-in-Some g c inside i l =
+    let is : c.in-Some.reached.now ≡ get_or c.args.note.now.reached c.args.place 0 = c.in-Some.ensures.lookup.3.1 0 in
+    bit-bit_and c.in-Some.reached.now c.eligible.result i ∙ ap₂ ◌&&◌ (ap (λ (x : ℕ). bit x i) is) (c.eligible.ensures i l)
