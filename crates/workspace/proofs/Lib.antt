@@ -11,6 +11,7 @@ pub mod Calling
 pub mod Occurring
 pub mod DecidingOccurrences
 pub mod Keying
+pub mod Images
 pub mod KeyLevels
 pub mod DistanceSets
 pub mod Standing

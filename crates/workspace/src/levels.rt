@@ -1,19 +1,19 @@
 // The numbers that can come next in a key, one function for each part of a key.
-ghost use Rattle.std.specs.Prelude.{◌≡◌, ℕ, ◌-◌, ◌*◌, ◌^◌, ◌<◌, ◌≤◌, min, not, ◌&&◌, ltb, List, length, drop, nat_le, nat_lt, slice_index};
+ghost use Rattle.std.specs.Prelude.{◌≡◌, ℕ, ◌-◌, ◌*◌, ◌^◌, ◌<◌, ◌≤◌, not, ◌&&◌, ltb, List, length, drop, nat_le, nat_lt};
 ghost use Rattle.gates.specs.Lines.{bit};
 ghost use Rattle.search.specs.Keys.{keyed};
-ghost use Rattle.workspace.specs.Notes.{possible};
+ghost use Rattle.workspace.specs.Notes.{can_stand, image_at, possible, some_of};
 ghost use Rattle.workspace.specs.Proposals.{template_of};
 ghost use Rattle.workspace.specs.Starts.{IsSet, framed, movable};
 ghost use Rattle.workspace.specs.TurnTests.{has_number_lem};
 
 use super::Template;
 use super::decoding::BEFORE_MAP;
-use super::notes::Note;
+use super::notes::{Image, Note};
 use super::noting::narrowed_set;
 use super::numbers::numbers_where;
 use super::start::{Start, eligible};
-use super::template::MOST_GATES;
+use super::template::{MOST_GATES, MOST_LINES};
 use gates::GateKind;
 use search::{Key, candidates};
 
@@ -30,7 +30,7 @@ pub(crate) fn next_shares(size: usize) -> u64
 fn next_flips(lines: u8) -> u64
     ensures { lines ≤ 4 → IsSet result (λ v. ltb v (2 ^ lines)) }
 {
-    if lines <= 4 {
+    if lines <= MOST_LINES {
         candidates::numbers_below(1_usize << lines)
     } else {
         0
@@ -64,23 +64,22 @@ fn is_mapped(key: &Key, x: u8) -> bool
     }
 }
 
+// Whether the image of the gate can still stand somewhere, where line x is the image of the line.
+fn can_still_stand<K: GateKind>(start: &Start<K>, image: &Image, line: u8, x: u8) -> bool
+    ensures { x < 32 → result ≡ some_of image.now.reached (can_stand K.means (framed start.now.frame) image.now.member.gate line x) }
+{
+    narrowed_set::<K>(start, image.reached, image.member.gate, line, x) != 0
+}
+
 // Whether each of the first few gates can still stand somewhere, where line x is the image of the line.
 fn is_possible<K: GateKind>(start: &Start<K>, note: &Note, few: usize, line: u8, x: u8) -> bool
-    ensures { x < 32 → result ≡ possible K.means (framed start.now.frame) note.now (min few 8) line x }
+    ensures { x < 32 → result ≡ possible K.means (framed start.now.frame) note.now few line x }
 {
-    for place in 0..few.min(8) {
-        let set = narrowed_set::<K>(
-            start,
-            note.reached[place],
-            note.posed.members[place].gate,
-            line,
-            x,
-        );
-        if set == 0 {
-            return false;
-        }
-    }
-    true
+    note.images
+        .as_slice()
+        .iter()
+        .take(few)
+        .all(|image| can_still_stand::<K>(start, image, line, x))
 }
 
 // The lines that can be the image of the line: those that are none yet and leave each of the first few gates somewhere to stand.
@@ -93,7 +92,7 @@ pub(crate) fn next_lines<K: GateKind>(
     lines: u8,
 ) -> u64
     ensures { lines ≤ 32
-        → IsSet result (λ x. nat_lt x lines && (not (has_number_lem (drop 6 (keyed key.now)) x) && possible K.means (framed start.now.frame) note.now (min few 8) line x)) }
+        → IsSet result (λ x. nat_lt x lines && (not (has_number_lem (drop 6 (keyed key.now)) x) && possible K.means (framed start.now.frame) note.now few line x)) }
 {
     numbers_where(lines as usize, |x| {
         let x = x as u8;
@@ -108,11 +107,10 @@ pub(crate) fn next_places<K: GateKind>(
     place: usize,
     last: usize,
 ) -> u64
-    ensures { place < 8
-        → IsSet result (λ d. bit (slice_index note.now.reached place) d && (nat_lt d (length (framed start.now.frame)) && (nat_lt last d && movable K.means (framed start.now.frame) note.now.chosen d))) }
+    ensures { IsSet result (λ d. bit (image_at note.now place).reached d && (nat_lt d (length (framed start.now.frame)) && (nat_lt last d && movable K.means (framed start.now.frame) note.now.chosen d))) }
 {
-    match note.reached.get(place) {
+    match note.images.as_slice().get(place) {
         None => 0,
-        Some(reached) => reached & eligible(start, note.chosen, last),
+        Some(image) => image.reached & eligible(start, note.chosen, last),
     }
 }

@@ -8,12 +8,12 @@ ghost use Rattle.workspace.specs.Firsts.{Started};
 ghost use Rattle.workspace.specs.Shelves.{IsNumbered, entries_of};
 
 use super::decoding::BEFORE_MAP;
-use super::notes::Note;
+use super::notes::{NO_IMAGE, Note};
 use super::occurs::is_occurrence;
-use super::posed::{Member, Posed};
 use super::start::{Start, start_at};
-use super::template::{BLANK, MOST_GATES};
+use super::template::MOST_GATES;
 use super::{Holdings, Template, levels, noting};
+use fixed_list::FixedList;
 use gates::{LineSet, WIDTH};
 use search::{Key, Problem, Shown, candidates};
 use stores::Store;
@@ -81,14 +81,7 @@ impl<S: Store> Problem for Holdings<S> {
 
     fn blank(&self) -> Note {
         Note {
-            posed: Posed {
-                members: [Member {
-                    position: 0,
-                    gate: BLANK,
-                }; 8],
-                count: 0,
-            },
-            reached: [0; 8],
+            images: FixedList::new(NO_IMAGE),
             chosen: 0,
         }
     }

@@ -3,8 +3,11 @@ ghost use Rattle.std.specs.Prelude.{ℕ, ◌<◌, slice_index_or};
 ghost use Rattle.workspace.specs.Starts.{HasRoles, no_roles};
 
 use super::numbers::distances_where;
-use gates::{Gate, GateKind, sets};
+use gates::{Gate, GateKind, WIDTH, sets};
 use std::array;
+
+// How many lines there are at most.
+pub(crate) const LINES: usize = WIDTH as usize;
 
 // The distances of the gates in which a line has each role.
 #[derive(Clone, Copy)]
@@ -26,7 +29,7 @@ fn roles_of<K: GateKind>(gates: &[Gate], line: u8) -> RoleSets
 }
 
 // For each line the distances at which it has each role.
-pub(crate) fn all_roles<K: GateKind>(gates: &[Gate]) -> [RoleSets; 32]
+pub(crate) fn all_roles<K: GateKind>(gates: &[Gate]) -> [RoleSets; LINES]
     ensures { (x : ℕ) → x < 32 → HasRoles K.means gates.now x (slice_index_or result x no_roles) }
 {
     array::from_fn(|line| roles_of::<K>(gates, line as u8))

@@ -9,7 +9,7 @@ use super::blockers::all_blockers;
 use super::frame::{Frame, REACH};
 use super::framing::frame_from;
 use super::numbers::numbers_where;
-use super::role::{RoleSets, all_roles};
+use super::role::{LINES, RoleSets, all_roles};
 use gates::{Gate, GateKind, WIDTH, sets};
 use search::candidates;
 use std::alloc::AllocError;
@@ -22,7 +22,7 @@ use stores::Store;
 pub struct Start<K: GateKind> {
     pub(crate) frame: Frame,
     blockers: [u64; REACH],
-    roles: [RoleSets; 32],
+    roles: [RoleSets; LINES],
     kind: PhantomData<K>,
     ghost known: { Known K.means (framed frame) blockers roles },
 }

@@ -1,4 +1,4 @@
-use Rattle.std.proofs.Common.{rules, ◌<◌, min, not, ◌&&◌, drop, arith}
+use Rattle.std.proofs.Common.{rules, ◌<◌, not, ◌&&◌, drop, arith}
 use Rattle.search.specs.Keys.{keyed}
 use Rattle.workspace.specs.Notes.{possible}
 use Rattle.workspace.specs.Starts.{framed}
@@ -7,5 +7,5 @@ use Rattle.workspace.proofs.levels.next_lines.Goals as goal
 
 pub returns : goal.returns
 returns g c few =
-    c.numbers_where.ensures (λ x. not (has_number_lem (drop 6 (keyed c.args.key.now)) x) && possible g.K.GateKind.means (framed c.args.start.now.frame) c.args.note.now (min c.args.few 8) c.args.line x)
+    c.numbers_where.ensures (λ x. not (has_number_lem (drop 6 (keyed c.args.key.now)) x) && possible g.K.GateKind.means (framed c.args.start.now.frame) c.args.note.now c.args.few c.args.line x)
     (λ x l b says. let small : x < 32 = omega arith in search rules)

@@ -1,4 +1,4 @@
-use Rattle.std.proofs.Common.{◌≡◌, ℕ, suc, ◌+◌, ◌-◌, ◌<◌, ◌≤◌, min, true, not, ◌&&◌, ltb, List, ◌∷◌, length, get_or, drop, sym, ap, ◌∙◌, subst, ap₂, arith}
+use Rattle.std.proofs.Common.{◌≡◌, ℕ, suc, ◌+◌, ◌-◌, ◌<◌, ◌≤◌, true, not, ◌&&◌, ltb, List, ◌∷◌, length, get_or, drop, sym, ap, ◌∙◌, subst, ap₂, arith}
 use Rattle.std.proofs.lemmas.Bool.{lt-ltb, and_from, not_from_false}
 use Rattle.gates.specs.declared.gate.Gate.{Gate}
 use Rattle.gates.specs.Lines.{bit}
@@ -8,11 +8,11 @@ use Rattle.workspace.specs.TurnTests.{has_number_lem}
 use Rattle.workspace.specs.Conditions.{no_entry}
 use Rattle.workspace.specs.Holdings.{condition_of}
 use Rattle.workspace.specs.Matching.{frame_at}
-use Rattle.workspace.specs.Notes.{possible}
+use Rattle.workspace.specs.Notes.{image_at, possible}
 use Rattle.workspace.specs.Proposals.{template_of}
 use Rattle.workspace.specs.Starts.{framed, movable}
 use Rattle.workspace.proofs.KeyLevels.{next_of, number_at}
-use Rattle.workspace.proofs.KeyNexts.{template_is, meets_rules_lem, place_inside, pose_covers, line_below, line_new}
+use Rattle.workspace.proofs.KeyNexts.{template_is, pose_covers, line_below, line_new}
 use Rattle.workspace.proofs.KeyNotes.{last_is, line_possible, place_next}
 use Rattle.workspace.proofs.matching.HoldingsProblem.candidates.Goals as goal
 
@@ -51,7 +51,7 @@ returns-in-Some-checked_sub g c fits v rest e =
     c.next_lines.ensures (omega (arith, c.lines.ensures, bounded.few_lines)) v (omega (arith, below, bounded.few_lines))
     ∙ and_from (ltb v c.lines.result) _ (lt-ltb v c.lines.result (omega (arith, below, c.lines.ensures)))
     (and_from (not (has_number_lem (drop 6 key) v)) _ (not_from_false (has_number_lem (drop 6 key) v) (line_new k held sound key v n i long inside))
-    (subst (λ (gs : List Gate). possible k gs note (min few 8) i v ≡ true) (sym frame) can))
+    (subst (λ (gs : List Gate). possible k gs note few i v ≡ true) (sym frame) can))
 
 pub returns-in-Some-2 : goal.returns-in-Some-2
 returns-in-Some-2 g c fits v rest e =
@@ -73,7 +73,6 @@ returns-in-Some-2 g c fits v rest e =
     let place : c.in-Some-checked_sub.line - c.lines-lines.result + 1 ≡ suc j = omega arith in
     let h = place_next k held g.met.S.Kind.GateKind.lawful sound key v n note (fits.whole (omega arith) o n.begun) j last long
     (c.last_distance-last.ensures ∙ ap (λ (l : ℕ). get_or (0 ∷ drop (6 + l) key) j 0) lines ∙ last_is k held key o n.begun j long) in
-    let few = (meets_rules_lem k held key o n.begun sound).size.1 in
-    c.next_places.ensures (omega (arith, place_inside k held sound key v n j long, n.begun.rules.within, few)) v h.0
-    ∙ ap₂ (λ (x : ℕ) (gs : List Gate). bit (get_or note.reached x 0) v && (ltb v (length gs) && (ltb last v && movable k gs note.chosen v))) place frame
+    c.next_places.ensures v h.0
+    ∙ ap₂ (λ (x : ℕ) (gs : List Gate). bit (image_at note x).reached v && (ltb v (length gs) && (ltb last v && movable k gs note.chosen v))) place frame
     ∙ h.1

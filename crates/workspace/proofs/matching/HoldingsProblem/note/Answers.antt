@@ -1,10 +1,12 @@
-use Rattle.std.proofs.Common.{◌≡◌, ℕ, ◌-◌, ◌&&◌, ◌||◌, eqb, List, get_or, ap, ◌∙◌, subst, arith}
+use Rattle.std.proofs.Common.{◌≡◌, ℕ, ◌-◌, ◌||◌, eqb, List, ap, ◌∙◌, subst, arith}
 use Rattle.gates.specs.declared.gate.Gate.{Gate}
 use Rattle.gates.specs.Lines.{bit}
+use Rattle.std.specs.List.{AllZip}
+use Rattle.fixed_list.specs.Lists.{contents}
 use Rattle.search.specs.Keys.{keyed}
 use Rattle.workspace.specs.Holdings.{condition_of}
 use Rattle.workspace.specs.Matching.{frame_at}
-use Rattle.workspace.specs.Notes.{can_stand, gate_of_lem}
+use Rattle.workspace.specs.Notes.{Narrows}
 use Rattle.workspace.specs.Proposals.{template_of}
 use Rattle.workspace.specs.Starts.{IsSet, framed}
 use Rattle.workspace.proofs.KeyLevels.{number_at}
@@ -33,7 +35,7 @@ returns-then-line-lines g c sound prefix v is started above six o b =
     let note = c.with_distance.result in
     let old = c.args.above.now in
     place_fits k held sound.sound key prefix v is o b g.met.S.Kind.GateKind.lawful old note (above (omega (arith, one_more k held sound.sound key prefix v is o b)) o (begun_before k held sound.sound key prefix v is o b))
-    c.with_distance.ensures.poses (omega (arith, lines)) c.with_distance.ensures.reaches
+    (omega (arith, lines)) c.with_distance.ensures.keeps
     (subst (λ (x : ℕ). IsSet note.chosen (λ d. eqb d x || bit old.chosen d)) last c.with_distance.ensures.chooses)
 
 pub returns-then-last : goal.returns-then-last
@@ -60,7 +62,6 @@ returns-else-last g c sound prefix v is started above six o b =
     let note = c.narrowed.result in
     let old = c.args.above.now in
     narrowed_fits k held sound.sound key prefix v is o b g.met.S.Kind.GateKind.lawful old note (above (omega (arith, one_more k held sound.sound key prefix v is o b)) o (begun_before k held sound.sound key prefix v is o b))
-    c.narrowed.ensures.poses i (omega arith) (omega (arith, lines)) c.narrowed.ensures.chooses
-    (λ j l.
-    (let N : ℕ → List Gate → Type 0 = λ x gs. IsSet (get_or note.reached j 0) (λ d. bit (get_or old.reached j 0) d && can_stand k gs (gate_of_lem old j) i x d) in
-    subst (λ (gs : List Gate). N v gs) frame (subst (λ (x : ℕ). N x (framed c.args.start.now.frame)) last (c.narrowed.ensures.reaches j l (omega arith)))))
+    i (omega arith) (omega (arith, lines)) c.narrowed.ensures.poses c.narrowed.ensures.chooses
+    (let N : ℕ → List Gate → Type 0 = λ x gs. AllZip (Narrows k gs i x) (contents old.images) (contents note.images) in
+    subst (N v) frame (subst (λ (x : ℕ). N x (framed c.args.start.now.frame)) last (c.narrowed.ensures.reaches (omega arith))))
