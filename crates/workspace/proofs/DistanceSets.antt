@@ -1,10 +1,9 @@
--- Sets of distances, as loops make them.
-use Rattle.std.proofs.Common.{◌≡◌, ℕ, ◌+◌, ◌-◌, ◌^◌, ◌<◌, ◌≤◌, Bool, true, false, not, ◌&&◌, ◌||◌, eqb, ltb, ◌⊎◌, List, length, get_or, set, sym, refl, ap, ◌∙◌, subst, ap₂, inl, inr, arith}
+-- Sets of numbers, as a loop makes them, and as they are compared.
+use Rattle.std.proofs.Common.{◌≡◌, ℕ, ◌+◌, ◌-◌, ◌^◌, ◌<◌, ◌≤◌, Bool, true, false, not, ◌&&◌, ◌||◌, eqb, ltb, ◌⊎◌, set, sym, refl, ap, ◌∙◌, subst, ap₂, inl, inr, arith}
 use mathlib.Core.Bool.{beq}
 use lib.Bits.{bit_and}
 use Rattle.std.proofs.lemmas.Nat.{and_le_l}
-use Rattle.std.proofs.lemmas.List.{get_or-set_same, get_or-set_other}
-use Rattle.std.proofs.lemmas.Bool.{cases_lt, cases_order, lt-ltb, le-ltb, eq-eqb, ne_eqb, eqb-true, and_from, and_right}
+use Rattle.std.proofs.lemmas.Bool.{cases_order, lt-ltb, le-ltb, eq-eqb, ne_eqb, eqb-true, and_from, and_right}
 use Rattle.gates.specs.Lines.{bit}
 use Rattle.gates.specs.Members.{bit_none, set_ext, every_of, every_at}
 use Rattle.gates.proofs.Masks.{bit-bit_and, bit_not}
@@ -38,17 +37,6 @@ below_skip P d set below none i l = below i l ∙ by (cases_order i d)
 
 pub below_all : (P : ℕ → Bool) (d n set : ℕ) → n ≤ d → d ≤ n → Below P d set → Below P n set
 below_all P d n set up down below = let end : d ≡ n = omega arith in subst (λ (m : ℕ). Below P m set) end below
-
--- a table of sets that is filled from its front
-pub filled_more : (Q : ℕ → ℕ → Type 0) (all : List ℕ) (d r : ℕ) → d < length all → ((e : ℕ) → e < d → Q e (get_or all e 0)) → Q d r
-    → (e : ℕ) → e < d + 1 → Q e (get_or (set all d r) e 0)
-filled_more Q all d r room below here e l = by (cases_lt e d)
-  where
-    by : (e < d) ⊎ (d ≤ e) → Q e (get_or (set all d r) e 0)
-    by (inl lt) = subst (Q e) (sym (get_or-set_other all d e r 0 (λ q. omega arith))) (below e lt)
-    by (inr ge) =
-        let same : d ≡ e = omega arith in
-        subst (λ (x : ℕ). Q x (get_or (set all d r) x 0)) same (subst (Q d) (sym (get_or-set_same all d r 0 room)) here)
 
 -- the numbers that are in the set just if that is wanted
 pub agree_yes : (set : ℕ) (wanted : Bool) → wanted ≡ true → IsSet set (λ i. beq (bit set i) wanted)

@@ -4,8 +4,10 @@ use Rattle.std.proofs.ByRecursion.{All-get_or}
 use Rattle.std.proofs.lemmas.List.{length-drop, get_or-drop}
 use Rattle.std.proofs.lemmas.Nat.{pow_below}
 use Rattle.std.proofs.lemmas.Bool.{cases_eq, lt-ltb, le-leb, and_from}
+use Rattle.std.proofs.lemmas.Bool.Decides.{leb_tells}
 use Rattle.gates.specs.Lines.{bit}
 use Rattle.gates.specs.Kinds.{KindMeaning}
+use Rattle.search.specs.Listing.{Whole}
 use Rattle.workspace.specs.Templates.{TemplateMeaning, MeetsRules, size}
 use Rattle.workspace.specs.TurnTests.{has_number_lem}
 use Rattle.workspace.specs.Conditions.{Condition, no_entry, Sound}
@@ -45,10 +47,6 @@ module _ (k : KindMeaning) (c : Condition) (prefix : List ℕ) (o : Occurrence) 
     long_is l = omega (arith, few_is l, key_long k c o b.rules, share_is l, b.rules.within, meets_rules_lem.size.1)
 
 module _ (k : KindMeaning) (c : Condition) (sound : Sound k c) (prefix : List ℕ) where
-  -- no key that begins so with a number of no template passes
-  pub unlisted : 2 ≤ length prefix → length c.shelf ≤ get_or prefix 1 0 → (v : ℕ) (rest : List ℕ) → occurs_in_test k c (prefix ++ v ∷ rest) ≡ true → ⊥
-  unlisted l past v rest e = let n = next_of k c prefix v rest e in let z : ⊥ = omega (arith, number_listed k c prefix n.o n.begun l) in z
-
   -- a key as long as its third number says is whole
   pub no_longer : 3 ≤ length prefix → (t : TemplateMeaning) → t ≡ (get_or c.shelf (get_or prefix 1 0) no_entry).template → 13 + t.lines ≤ length prefix + get_or prefix 2 0
       → (v : ℕ) (rest : List ℕ) → occurs_in_test k c (prefix ++ v ∷ rest) ≡ true → ⊥
@@ -69,12 +67,14 @@ module _ (k : KindMeaning) (c : Condition) (sound : Sound k c) (prefix : List �
           let lines = ap (λ (x : TemplateMeaning). x.lines) (template_is k c prefix o b (omega arith) t is) in
           absurd (let z : ⊥ = omega (arith, lines, long_is k c prefix o b sound l, long) in z)
 
-  pub begins_short : length prefix < 6 → occurs_in_test k c prefix ≡ false
-  begins_short short = at (occurs_in_test k c prefix) refl
+  -- so the key is whole just if it is as long as its third number says
+  pub whole_is : 3 ≤ length prefix → (t : TemplateMeaning) → t ≡ (get_or c.shelf (get_or prefix 1 0) no_entry).template → (least long : ℕ) → least ≡ 13 + t.lines
+      → long ≡ length prefix + get_or prefix 2 0 → Whole (occurs_in_test k c) prefix (leb least long)
+  whole_is l t is least long m n = by (leb_tells least long)
     where
-      at : (r : Bool) → occurs_in_test k c prefix ≡ r → occurs_in_test k c prefix ≡ false
-      at false e = e
-      at true e = let (o, b, long) = begun_of k c prefix e in absurd (let z : ⊥ = omega (arith, key_long k c o b.rules, long) in z)
+      by : ((leb least long ≡ true) × (least ≤ long)) ⊎ ((leb least long ≡ false) × (long < least)) → Whole (occurs_in_test k c) prefix (leb least long)
+      by (inl h) = subst (Whole (occurs_in_test k c) prefix) (sym h.0) (no_longer l t is (omega (arith, h.1)))
+      by (inr h) = subst (Whole (occurs_in_test k c) prefix) (sym h.0) (too_short l t is (omega (arith, h.1)))
 
 module _ (k : KindMeaning) (c : Condition) (sound : Sound k c) (prefix : List ℕ) (v : ℕ) (n : Next k c prefix v) where
   abbrev o : Occurrence
@@ -85,9 +85,6 @@ module _ (k : KindMeaning) (c : Condition) (sound : Sound k c) (prefix : List �
 
   at_level : (i : ℕ) → length prefix ≡ i → v ≡ get_or (key_of o) i 0
   at_level i is = sym (ap (λ (x : ℕ). get_or (key_of o) x 0) (sym is) ∙ n.is)
-
-  pub next_number : length prefix ≡ 1 → v < length c.shelf
-  next_number is = omega (arith, at_level 1 is, n.begun.rules.listed)
 
   -- the next number is 8 - k, and k is more than half of the size and no more than it
   pub next_share : length prefix ≡ 2 → (t : TemplateMeaning) → t ≡ e → (v < 8) × ((ltb v 8 && (ltb (size t) (2 * (8 - v)) && leb (8 - v) (size t))) ≡ true)

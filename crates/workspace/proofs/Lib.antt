@@ -10,6 +10,7 @@ pub mod Calling
 pub mod Occurring
 pub mod DecidingOccurrences
 pub mod Keying
+pub mod Images
 pub mod KeyLevels
 pub mod DistanceSets
 pub mod Standing
@@ -36,6 +37,7 @@ pub mod KeyNexts
 pub mod KeyNotes
 pub mod Passing
 pub mod Choosing
+pub mod Tables
 pub mod Testing
 pub mod RulesInFrame
 pub mod ReadKeys

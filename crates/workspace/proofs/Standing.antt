@@ -1,27 +1,16 @@
 -- Whether the images of a template's gates can stand somewhere, by sets of distances.
-use Rattle.std.proofs.Common.{◌≡◌, ℕ, ◌+◌, ◌^◌, ◌<◌, ◌≤◌, Bool, true, false, not, ◌&&◌, ◌||◌, List, length, get_or, drop, sym, refl, ap, ◌∙◌, ap₂, arith}
-use Rattle.std.proofs.lemmas.List.{at_drop_more, at_drop_all}
-use Rattle.std.proofs.lemmas.Bool.{eq-eqb, ne_eqb}
+use Rattle.std.proofs.Common.{◌≡◌, ℕ, zero, suc, ◌^◌, ◌<◌, Bool, true, false, not, ◌&&◌, eqb, ◌⊎◌, List, [], ◌∷◌, get_or, take, sym, refl, ap, ◌∙◌, ap₂, inl, inr, arith}
+use Rattle.std.specs.List.{list_all}
+use Rattle.std.proofs.lemmas.Bool.{and_from, cases_eq, eq-eqb, ne_eqb}
+use Rattle.fixed_list.specs.Lists.{contents}
 use Rattle.gates.specs.declared.gate.Gate.{Gate}
 use Rattle.gates.specs.Lines.{bit, every_below}
 use Rattle.gates.specs.Kinds.{KindMeaning}
 use Rattle.gates.specs.Members.{bit_none, set_ext, every_of, every_at}
 use Rattle.workspace.specs.declared.notes.Note.{Note}
-use Rattle.workspace.specs.Notes.{can_stand, some_of, gate_of_lem, possible}
+use Rattle.workspace.specs.Notes.{blank_image, can_stand, some_of, gate_of_lem, image_at, possible}
 use Rattle.workspace.specs.Starts.{IsSet}
-use Rattle.workspace.specs.TurnTests.{has_number_lem}
-use Rattle.workspace.proofs.Stepping.{every_none, every_more, every_fails}
-
--- a number of the list from place i on
-module _ (xs : List ℕ) (i x : ℕ) (lt : i < length xs) where
-  pub has_here : get_or xs i 0 ≡ x → has_number_lem (drop i xs) x ≡ true
-  has_here e = at_drop_more (λ ys. has_number_lem ys x) xs i 0 lt ∙ ap (λ (b : Bool). b || has_number_lem (drop (i + 1) xs) x) (eq-eqb (get_or xs i 0) x e)
-
-  pub has_later : (get_or xs i 0 ≡ x → ⊥) → has_number_lem (drop (i + 1) xs) x ≡ has_number_lem (drop i xs) x
-  has_later ne = sym (at_drop_more (λ ys. has_number_lem ys x) xs i 0 lt ∙ ap (λ (b : Bool). b || has_number_lem (drop (i + 1) xs) x) (ne_eqb (get_or xs i 0) x ne))
-
-pub has_none : (xs : List ℕ) (i x : ℕ) → length xs ≤ i → has_number_lem (drop i xs) x ≡ false
-has_none xs i x end = at_drop_all (λ ys. has_number_lem ys x) xs i end
+use Rattle.workspace.proofs.Stepping.{every_fails}
 
 -- a set of distances that is made of another has a member where some member of that satisfies P
 module _ (set r : ℕ) (P : ℕ → Bool) (is : IsSet r (λ d. bit set d && P d)) where
@@ -40,21 +29,22 @@ module _ (set r : ℕ) (P : ℕ → Bool) (is : IsSet r (λ d. bit set d && P d)
       at true e =
           absurd (ne (set_ext 64 r 0 fits (omega arith) (λ d l. is d l ∙ never (bit set d && P d) (every_at 64 (λ d. not (bit set d && P d)) e d l) ∙ sym (bit_none d))))
 
+  pub some_of_it : r < 2 ^ 64 → not (eqb r 0) ≡ some_of set P
+  some_of_it fits = by (cases_eq r 0)
+    where
+      by : (r ≡ 0) ⊎ (r ≡ 0 → ⊥) → not (eqb r 0) ≡ some_of set P
+      by (inl e) = ap not (eq-eqb r 0 e) ∙ sym (none_of e)
+      by (inr ne) = ap not (ne_eqb r 0 ne) ∙ sym (one_of fits ne)
+
 pub some_there : (set : ℕ) (P : ℕ → Bool) (d : ℕ) → d < 64 → bit set d ≡ true → P d ≡ true → some_of set P ≡ true
 some_there set P d l here holds = ap not (every_fails 64 d (λ d. not (bit set d && P d)) l (ap₂ (λ (a b : Bool). not (a && b)) here holds))
 
-module _ (k : KindMeaning) (frame : List Gate) (note : Note) (i x : ℕ) where
-  abbrev stands : ℕ → Bool
-  stands j = some_of (get_or note.reached j 0) (can_stand k frame (gate_of_lem note j) i x)
+-- the first few items pass where each of them does
+all_of : {X : Type 0} (p : X → Bool) (d : X) (few : ℕ) (xs : List X) → ((j : ℕ) → j < few → p (get_or xs j d) ≡ true) → list_all p (take few xs) ≡ true
+all_of p d zero xs h = refl
+all_of p d (suc few) [] h = refl
+all_of p d (suc few) (x ∷ xs) h = and_from (p x) (list_all p (take few xs)) (h 0 (omega arith)) (all_of p d few xs (λ j l. h (suc j) (omega arith)))
 
-  pub possible_none : possible k frame note 0 i x ≡ true
-  possible_none = every_none stands
-
-  pub possible_more : (j : ℕ) → possible k frame note j i x ≡ true → stands j ≡ true → possible k frame note (j + 1) i x ≡ true
-  possible_more j = every_more j stands
-
-  pub possible_fails : (few j : ℕ) → j < few → stands j ≡ false → possible k frame note few i x ≡ false
-  possible_fails few j = every_fails few j stands
-
-  pub possible_of : (few : ℕ) → ((j : ℕ) → j < few → stands j ≡ true) → possible k frame note few i x ≡ true
-  possible_of few = every_of few stands
+pub possible_of : (k : KindMeaning) (frame : List Gate) (note : Note) (i x few : ℕ)
+    → ((j : ℕ) → j < few → some_of (image_at note j).reached (can_stand k frame (gate_of_lem note j) i x) ≡ true) → possible k frame note few i x ≡ true
+possible_of k frame note i x few = all_of (λ m. some_of m.reached (can_stand k frame m.member.gate i x)) blank_image few (contents note.images)

@@ -15,6 +15,7 @@ pub mod Matching
 pub mod Prefixes
 pub mod Notes
 pub mod Starts
+pub mod Firsts
 pub mod Posing
 pub mod Naming
 pub mod Sweeps

@@ -1,22 +1,28 @@
--- What is known once for a first place: in its frame, which gates block which, and in which role each line is.
+-- What is known of a frame: which gates block which, and in which role each line is.
 use Rattle.std.specs.Prelude.{◌≡◌, ℕ, ◌<◌, Bool, not, ◌&&◌, ◌||◌, List, length, take, nat_lt, slice_index, slice_index_or}
 use Rattle.std.specs.Bool.{beq}
 use Rattle.gates.specs.declared.gate.Gate.{Gate}
 use Rattle.gates.specs.Lines.{bit, every_below}
 use Rattle.gates.specs.Controls.{gate}
 use Rattle.gates.specs.Kinds.{KindMeaning}
-use Rattle.workspace.specs.declared.role.Role.{Role}
-use Rattle.workspace.specs.declared.role.Role.TheVariants.{Positive, Negative, Target}
-use Rattle.workspace.specs.declared.start.Start.{Start}
-use Rattle.workspace.specs.Matching.{frame_at}
+use Rattle.workspace.specs.declared.frame.Frame.{Frame}
+use Rattle.workspace.specs.declared.role.RoleSets.{RoleSets}
 
 -- the numbers below 64 in the set are those of which P holds
 abbrev pub IsSet : ℕ → (ℕ → Bool) → Type 0
 IsSet set P = (i : ℕ) → i < 64 → bit set i ≡ P i
 
+-- of each number below the count a test, by what it may answer, answers what p says
+abbrev pub Answering : (ℕ → Bool → Type 0) → ℕ → (ℕ → Bool) → Type 0
+Answering answers count p = (i : ℕ) → i < count → (b : Bool) → answers i b → b ≡ p i
+
 -- all numbers below 64 in the set are in the other
 abbrev pub within : ℕ → ℕ → Bool
 within set other = every_below 64 (λ i. bit other i || not (bit set i))
+
+-- the gates of a frame
+abbrev pub framed : Frame → List Gate
+framed frame = take frame.count frame.gates
 
 -- the gate at this distance from the first
 abbrev pub at_distance : List Gate → ℕ → Gate
@@ -29,6 +35,12 @@ blocks k frame d e = nat_lt e d && not (k.free (at_distance frame e) (at_distanc
 -- each gate before the one at distance d is chosen or interchanges with it
 abbrev pub movable : KindMeaning → List Gate → ℕ → ℕ → Bool
 movable k frame chosen d = every_below d (λ e. bit chosen e || k.free (at_distance frame e) (at_distance frame d))
+
+-- what a line can be to a gate
+pub data Role : Type 0 where
+  Positive : Role
+  Negative : Role
+  Target : Role
 
 -- the lines that have the role in the gate
 abbrev pub lines_in_lem : KindMeaning → Role → Gate → ℕ
@@ -44,10 +56,17 @@ has_role_at k role frame count x d = nat_lt d count && bit (lines_in_lem k role 
 abbrev pub same_role : KindMeaning → Gate → ℕ → Gate → ℕ → Bool
 same_role k t i w x = beq (bit w.positive x) (bit t.positive i) && (beq (bit w.negative x) (bit t.negative i) && beq (bit (k.targets w) x) (bit (k.targets t) i))
 
--- the start knows the frame of the first place: its gates, the blockers of each, and the distances at which each line has each role
-pub record Started (k : KindMeaning) (gates : List Gate) (first : ℕ) (start : Start) : Type 0 where
-  pub frame : take start.frame.count start.frame.gates ≡ frame_at gates first
-  pub blockers : (d : ℕ) → d < length (frame_at gates first) → IsSet (slice_index start.blockers d) (blocks k (frame_at gates first) d)
-  pub positive : (x : ℕ) → x < 32 → IsSet (slice_index start.positive_at x) (has_role_at k Positive (frame_at gates first) (length (frame_at gates first)) x)
-  pub negative : (x : ℕ) → x < 32 → IsSet (slice_index start.negative_at x) (has_role_at k Negative (frame_at gates first) (length (frame_at gates first)) x)
-  pub targets : (x : ℕ) → x < 32 → IsSet (slice_index start.targets_at x) (has_role_at k Target (frame_at gates first) (length (frame_at gates first)) x)
+-- the sets have the distances of a frame at which line x has each role
+pub record HasRoles (k : KindMeaning) (frame : List Gate) (x : ℕ) (sets : RoleSets) : Type 0 where
+  pub positive : IsSet sets.positive (has_role_at k Positive frame (length frame) x)
+  pub negative : IsSet sets.negative (has_role_at k Negative frame (length frame) x)
+  pub targets : IsSet sets.targets (has_role_at k Target frame (length frame) x)
+
+-- what a read past the sets of all lines gives
+abbrev pub no_roles : RoleSets
+no_roles = record { positive = 0; negative = 0; targets = 0 }
+
+-- what is known of a frame: the blockers of each gate, and the distances at which each line has each role
+pub record Known (k : KindMeaning) (frame : List Gate) (sets : List ℕ) (lines : List RoleSets) : Type 0 where
+  pub blockers : (d : ℕ) → d < length frame → IsSet (slice_index sets d) (blocks k frame d)
+  pub roles : (x : ℕ) → x < 32 → HasRoles k frame x (slice_index_or lines x no_roles)

@@ -1,32 +1,27 @@
 // Which gates of a frame block which: those before a gate with which it does not interchange.
-ghost use Rattle.std.specs.Prelude.{ℕ, ◌<◌, slice_index};
+ghost use Rattle.std.specs.Prelude.{ℕ, ◌<◌, length, slice_index};
 ghost use Rattle.workspace.specs.Starts.{IsSet, blocks};
 
-use super::frame::{Frame, REACH};
-use gates::GateKind;
-use search::candidates;
+use super::frame::REACH;
+use super::numbers::distances_where;
+use gates::{Gate, GateKind};
+use std::array;
 
-// The distances of the gates that block the one at this distance.
-fn blockers_of<K: GateKind>(frame: &Frame, distance: usize) -> u64
-    requires { distance < 32 }
-    ensures { IsSet result (blocks K.means frame.now.gates distance) }
+// The distances of the gates that block the one at this distance; none where there is no gate.
+fn blockers_of<K: GateKind>(gates: &[Gate], distance: usize) -> u64
+    ensures { distance < length gates.now → IsSet result (blocks K.means gates.now distance) }
 {
-    let mut blockers = 0;
-    for before in 0..distance {
-        if !K::interchange(frame.gates[before], frame.gates[distance]) {
-            blockers = candidates::with_number(blockers, before);
+    match gates.get(distance) {
+        None => 0,
+        Some(gate) => {
+            distances_where(&gates[..distance], |before| !K::interchange(before, *gate))
         }
     }
-    blockers
 }
 
-// For each gate of the frame the distances of those that block it.
-pub(crate) fn all_blockers<K: GateKind>(frame: &Frame) -> [u64; REACH]
-    ensures { (d : ℕ) → d < frame.now.count → IsSet (slice_index result d) (blocks K.means frame.now.gates d) }
+// For each gate the distances of those that block it.
+pub(crate) fn all_blockers<K: GateKind>(gates: &[Gate]) -> [u64; REACH]
+    ensures { (d : ℕ) → d < 32 → d < length gates.now → IsSet (slice_index result d) (blocks K.means gates.now d) }
 {
-    let mut all = [0; REACH];
-    for distance in 0..frame.count {
-        all[distance] = blockers_of::<K>(frame, distance);
-    }
-    all
+    array::from_fn(|distance| blockers_of::<K>(gates, distance))
 }

@@ -9,7 +9,7 @@ use gates::LineSet;
 use search::Key;
 
 // How many numbers stand before a key's line map.
-const BEFORE_MAP: usize = 6;
+pub(crate) const BEFORE_MAP: usize = 6;
 
 // Whether the lines of the map fit a table.
 fn is_map_small(lines: usize, key: &Key) -> bool

@@ -19,6 +19,7 @@ mod moving;
 mod named;
 mod notes;
 mod noting;
+mod numbers;
 mod occurrence;
 mod occurs;
 mod plan;

@@ -1,13 +1,27 @@
 // Notes: what the search keeps of a key, so that it need not be worked out again for longer keys.
-ghost use Rattle.std.specs.Prelude.{◌≡◌, length};
+use super::posed::Member;
+use super::template::{BLANK, MOST_GATES};
+use fixed_list::FixedList;
 
-use super::posed::Posed;
+// A gate of a posed template, and the distances from the first place at which its image can stand.
+#[derive(Clone, Copy)]
+pub(crate) struct Image {
+    pub(crate) member: Member,
+    pub(crate) reached: u64,
+}
 
-// The template as the key poses it; for each of its gates the distances from the first place at which its image can stand; and the distances chosen so far.
+// What stands behind the images of a note.
+pub(crate) const NO_IMAGE: Image = Image {
+    member: Member {
+        position: 0,
+        gate: BLANK,
+    },
+    reached: 0,
+};
+
+// The template as the key poses it, with what each of its gates can reach; and the distances chosen so far.
 #[derive(Clone, Copy)]
 pub struct Note {
-    pub(crate) posed: Posed,
-    pub(crate) reached: [u64; 8],
+    pub(crate) images: FixedList<Image, MOST_GATES>,
     pub(crate) chosen: u64,
-    ghost wide: { length reached ≡ 8 },
 }

@@ -1,21 +1,23 @@
 // Making notes: a template is posed, its lines are mapped one by one, places are chosen one by one.
-ghost use Rattle.std.specs.Prelude.{◌≡◌, ℕ, ◌<◌, ◌≤◌, ◌&&◌, ◌||◌, List, length, ◌==◌, slice_index};
-ghost use Rattle.gates.specs.declared.gate.Gate.{Gate as GateRecord};
+ghost use Rattle.std.specs.Prelude.{◌≡◌, ◌<◌, ◌≤◌, ◌&&◌, ◌||◌, length, map, take, ◌==◌};
+ghost use Rattle.std.specs.List.{AllZip};
+ghost use Rattle.fixed_list.specs.Lists.{contents};
 ghost use Rattle.gates.specs.Lines.{bit};
-ghost use Rattle.workspace.specs.Matching.{frame_at, members_of, posed as posed_list};
-ghost use Rattle.workspace.specs.Notes.{can_stand, gate_of_lem, open_reach};
+ghost use Rattle.workspace.specs.Matching.{posed as posed_list};
+ghost use Rattle.workspace.specs.Notes.{Narrows, can_stand, members_in, open_reach};
 ghost use Rattle.workspace.specs.Proposals.{template_of};
-ghost use Rattle.workspace.specs.Starts.{IsSet, Started};
+ghost use Rattle.workspace.specs.Starts.{IsSet, framed};
 
 use super::Template;
-use super::notes::Note;
+use super::notes::{Image, NO_IMAGE, Note};
 use super::posing::pose;
 use super::start::{Start, role_set};
+use fixed_list::FixedList;
 use gates::{Gate, GateKind, LineSet};
 use search::candidates;
 
 // All distances but that of the first place itself.
-const LATER: u64 = 18446744073709551614;
+const LATER: u64 = !1;
 
 // The note of a template as it is posed: the first gate stands at the first place, the others anywhere behind it.
 pub(crate) fn posed_note<K: GateKind>(
@@ -24,58 +26,59 @@ pub(crate) fn posed_note<K: GateKind>(
     rotation: usize,
     flips: LineSet,
 ) -> Note
-    ensures poses { rotation ≤ length (template_of template.now).gates
-        → members_of result.posed.members result.posed.count ≡ posed_list K.means (template_of template.now) back rotation flips }
-    ensures reaches { result.reached ≡ open_reach }
+    ensures poses { rotation ≤ length (template_of template.now).gates → members_in result.images ≡ posed_list K.means (template_of template.now) back rotation flips }
+    ensures reaches { map (λ m. m.reached) (contents result.images) ≡ take (length (contents result.images)) open_reach }
     ensures chooses { result.chosen ≡ 1 }
 {
-    Note {
-        posed: pose::<K>(template, back, rotation, flips),
-        reached: [1, LATER, LATER, LATER, LATER, LATER, LATER, LATER],
-        chosen: 1,
-    }
+    let posed = pose::<K>(template, back, rotation, flips);
+    let members = FixedList::of(posed.members(), NO_IMAGE.member);
+    let mut images = members.map(
+        NO_IMAGE,
+        |member| Image {
+            member,
+            reached: LATER,
+        },
+    );
+    images.change(0, |image| image.reached = 1);
+    Note { images, chosen: 1 }
 }
 
 // The distances of the set at which the image of the gate can stand, where line x is the image of its line.
-pub(crate) fn narrowed_set<K: GateKind>(start: &Start, set: u64, gate: Gate, line: u8, x: u8) -> u64
-    ensures { (gates : List GateRecord) (first : ℕ) → Started K.means gates first start.now → x < 32 → IsSet result (λ d. bit set d && can_stand K.means (frame_at gates first) gate line x d) }
+pub(crate) fn narrowed_set<K: GateKind>(
+    start: &Start<K>,
+    set: u64,
+    gate: Gate,
+    line: u8,
+    x: u8,
+) -> u64
+    ensures { x < 32 → IsSet result (λ d. bit set d && can_stand K.means (framed start.now.frame) gate line x d) }
 {
     set & role_set::<K>(start, gate, line, x)
 }
 
 // The note after line x became the image of the line.
-pub(crate) fn narrowed<K: GateKind>(start: &Start, above: &Note, line: u8, x: u8) -> Note
-    ensures poses { result.posed ≡ above.now.posed }
-    ensures reaches { (j : ℕ) (gates : List GateRecord) (first : ℕ) → j < 8 → Started K.means gates first start.now → x < 32
-        → IsSet (slice_index result.reached j) (λ d. bit (slice_index above.now.reached j) d && can_stand K.means (frame_at gates first) (gate_of_lem above.now j) line x d) }
+pub(crate) fn narrowed<K: GateKind>(start: &Start<K>, above: &Note, line: u8, x: u8) -> Note
+    ensures poses { members_in result.images ≡ members_in above.now.images }
+    ensures reaches { x < 32 → AllZip (Narrows K.means (framed start.now.frame) line x) (contents above.now.images) (contents result.images) }
     ensures chooses { result.chosen ≡ above.now.chosen }
 {
-    let mut reached = above.reached;
-    for place in 0..8 {
-        reached[place] = narrowed_set::<K>(
-            start,
-            reached[place],
-            above.posed.members[place].gate,
-            line,
-            x,
-        );
-    }
-    Note {
-        posed: above.posed,
-        reached,
-        chosen: above.chosen,
-    }
+    let images = above.images.map(
+        NO_IMAGE,
+        |image| Image {
+            reached: narrowed_set::<K>(start, image.reached, image.member.gate, line, x),
+            ..image
+        },
+    );
+    Note { images, ..*above }
 }
 
 // The note after one more distance was chosen.
 pub(crate) fn with_distance(above: &Note, distance: usize) -> Note
-    ensures poses { result.posed ≡ above.now.posed }
-    ensures reaches { result.reached ≡ above.now.reached }
+    ensures keeps { result.images ≡ above.now.images }
     ensures chooses { IsSet result.chosen (λ d. (d == distance) || bit above.now.chosen d) }
 {
     Note {
-        posed: above.posed,
-        reached: above.reached,
         chosen: candidates::with_number(above.chosen, distance),
+        ..*above
     }
 }

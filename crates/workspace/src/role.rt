@@ -1,50 +1,36 @@
 // The roles of lines in the gates of a frame.
-ghost use Rattle.std.specs.Prelude.{◌≡◌, ℕ, ◌<◌, slice_index};
-ghost use Rattle.workspace.specs.Starts.{IsSet, has_role_at, lines_in_lem};
+ghost use Rattle.std.specs.Prelude.{ℕ, ◌<◌, slice_index_or};
+ghost use Rattle.workspace.specs.Starts.{HasRoles, no_roles};
 
-use super::frame::Frame;
-use gates::{Gate, GateKind, LineSet, sets};
-use search::candidates;
+use super::numbers::distances_where;
+use gates::{Gate, GateKind, WIDTH, sets};
+use std::array;
 
-// What a line can be to a gate.
+// How many lines there are at most.
+pub(crate) const LINES: usize = WIDTH as usize;
+
+// The distances of the gates in which a line has each role.
 #[derive(Clone, Copy)]
-pub(crate) enum Role {
-    Positive,
-    Negative,
-    Target,
+pub(crate) struct RoleSets {
+    pub(crate) positive: u64,
+    pub(crate) negative: u64,
+    pub(crate) targets: u64,
 }
 
-// The lines that have the role in the gate.
-pub(crate) fn lines_in<K: GateKind>(gate: Gate, role: Role) -> LineSet
-    ensures { result ≡ lines_in_lem K.means role gate }
+// The distances at which the line has each role.
+fn roles_of<K: GateKind>(gates: &[Gate], line: u8) -> RoleSets
+    ensures { HasRoles K.means gates.now line result }
 {
-    match role {
-        Role::Positive => gate.positive,
-        Role::Negative => gate.negative,
-        Role::Target => K::targets(gate),
+    RoleSets {
+        positive: distances_where(gates, |gate| sets::has_line(gate.positive, line)),
+        negative: distances_where(gates, |gate| sets::has_line(gate.negative, line)),
+        targets: distances_where(gates, |gate| sets::has_line(K::targets(gate), line)),
     }
 }
 
-// The distances of the gates in the frame in which the line has the role.
-fn column<K: GateKind>(frame: &Frame, role: Role, line: u8) -> u64
-    ensures { IsSet result (has_role_at K.means role frame.now.gates frame.now.count line) }
+// For each line the distances at which it has each role.
+pub(crate) fn all_roles<K: GateKind>(gates: &[Gate]) -> [RoleSets; LINES]
+    ensures { (x : ℕ) → x < 32 → HasRoles K.means gates.now x (slice_index_or result x no_roles) }
 {
-    let mut distances = 0;
-    for distance in 0..frame.count {
-        if sets::has_line(lines_in::<K>(frame.gates[distance], role), line) {
-            distances = candidates::with_number(distances, distance);
-        }
-    }
-    distances
-}
-
-// For each line the distances at which it has the role.
-pub(crate) fn columns<K: GateKind>(frame: &Frame, role: Role) -> [u64; 32]
-    ensures { (x : ℕ) → x < 32 → IsSet (slice_index result x) (has_role_at K.means role frame.now.gates frame.now.count x) }
-{
-    let mut all = [0; 32];
-    for line in 0..32u8 {
-        all[line as usize] = column::<K>(frame, role, line);
-    }
-    all
+    array::from_fn(|line| roles_of::<K>(gates, line as u8))
 }

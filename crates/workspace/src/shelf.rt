@@ -4,7 +4,7 @@ ghost use Rattle.std.specs.Option.{option_map};
 ghost use Rattle.fixed_list.specs.Lists.{push_outcome, pushed, removed};
 ghost use Rattle.workspace.specs.Conditions.{counted_once, entry};
 ghost use Rattle.workspace.specs.Proposals.{template_of};
-ghost use Rattle.workspace.specs.Shelves.{counted_at, entries_of, entry_of, listed_template};
+ghost use Rattle.workspace.specs.Shelves.{IsNumbered, counted_at, entries_of, entry_of, listed_template};
 
 use super::Template;
 use super::entry::Entry;
@@ -66,8 +66,7 @@ impl Shelf {
 
     // The template of an entry, where there is one of that number.
     pub(crate) fn template_at(&self, number: usize) -> Option<&Template>
-        ensures some { IfSome result (λ t. (number < length (entries_of self.now)) × (template_of t.now ≡ listed_template self.now number)) }
-        ensures none { IfNone result (length (entries_of self.now) ≤ number) }
+        ensures { IsNumbered (entries_of self.now) number result }
     {
         let entry = self.entries.as_slice().get(number)?;
         Some(&entry.template)

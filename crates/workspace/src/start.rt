@@ -1,40 +1,54 @@
 // What is known once for a first place: the frame, who blocks whom in it, and where each line has which role.
-ghost use Rattle.std.specs.Prelude.{◌≡◌, ℕ, ◌<◌, ◌&&◌, List, length, nat_lt};
-ghost use Rattle.std.specs.Bool.{beq};
-ghost use Rattle.gates.specs.declared.gate.Gate.{Gate};
-ghost use Rattle.gates.specs.Kinds.{KindMeaning};
 ghost use Rattle.gates.specs.Lines.{bit};
+ghost use Rattle.std.specs.Bool.{beq};
+ghost use Rattle.std.specs.Prelude.{◌≡◌, ◌<◌, ◌&&◌, length, nat_lt, ⊤};
 ghost use Rattle.workspace.specs.Matching.{frame_at};
-ghost use Rattle.workspace.specs.Starts.{IsSet, Started, at_distance, movable, same_role, within};
+ghost use Rattle.workspace.specs.Starts.{IsSet, Known, at_distance, framed, movable, same_role, within};
 
+use super::blockers::all_blockers;
 use super::frame::{Frame, REACH};
-use super::role::Role;
-use super::{blockers, framing, role};
+use super::framing::frame_from;
+use super::numbers::numbers_where;
+use super::role::{LINES, RoleSets, all_roles};
 use gates::{Gate, GateKind, WIDTH, sets};
 use search::candidates;
+use std::alloc::AllocError;
+use std::marker::PhantomData;
 use stores::Store;
 
 // For each distance those of its blockers, and for each line the distances at which it has each role.
-#[derive(Clone, Copy)]
-pub struct Start {
+// The blockers do not stand beside their gates, since the exact test of a key reads the gates alone, as one slice.
+#[derive_where(Copy)]
+pub struct Start<K: GateKind> {
     pub(crate) frame: Frame,
-    pub(crate) blockers: [u64; REACH],
-    pub(crate) positive_at: [u64; 32],
-    pub(crate) negative_at: [u64; 32],
-    pub(crate) targets_at: [u64; 32],
+    blockers: [u64; REACH],
+    roles: [RoleSets; LINES],
+    kind: PhantomData<K>,
+    ghost known: { Known K.means (framed frame) blockers roles },
+}
+
+// A copy is a clone.
+impl<K: GateKind> Clone for Start<K> {
+    ghost is_clone = { λ start copy. copy ≡ start };
+
+    ghost is_infallible = { λ _. ⊤ };
+
+    fn clone(&self) -> Result<Start<K>, AllocError> {
+        Ok(*self)
+    }
 }
 
 // What is known for this first place.
-pub(crate) fn start_at<S: Store>(store: &S, first: usize) -> Start
-    ensures { Started S.Kind.GateKind.means (S.Store.means store.now).gates first result }
+pub(crate) fn start_at<S: Store>(store: &S, first: usize) -> Start<S::Kind>
+    ensures { framed result.frame ≡ frame_at (S.Store.means store.now).gates first }
 {
-    let frame = framing::frame_from(store, first);
+    let frame = frame_from(store, first);
+    let gates = &frame.gates[..frame.count];
     Start {
         frame,
-        blockers: blockers::all_blockers::<S::Kind>(&frame),
-        positive_at: role::columns::<S::Kind>(&frame, Role::Positive),
-        negative_at: role::columns::<S::Kind>(&frame, Role::Negative),
-        targets_at: role::columns::<S::Kind>(&frame, Role::Target),
+        blockers: all_blockers::<S::Kind>(gates),
+        roles: all_roles::<S::Kind>(gates),
+        kind: PhantomData,
     }
 }
 
@@ -46,16 +60,16 @@ fn agreeing(set: u64, wanted: bool) -> u64
 }
 
 // The distances at which line x has the roles that the other line has in the gate.
-pub(crate) fn role_set<K: GateKind>(start: &Start, gate: Gate, line: u8, x: u8) -> u64
-    ensures { (gates : List Gate) (first : ℕ) → Started K.means gates first start.now → x < 32 → IsSet result (λ d. nat_lt d (length (frame_at gates first)) && same_role K.means gate line (at_distance (frame_at gates first) d) x) }
+pub(crate) fn role_set<K: GateKind>(start: &Start<K>, gate: Gate, line: u8, x: u8) -> u64
+    ensures { x < 32 → IsSet result (λ d. nat_lt d (length (framed start.now.frame)) && same_role K.means gate line (at_distance (framed start.now.frame) d) x) }
 {
     if x >= WIDTH {
         return 0;
     }
-    let at = x as usize;
-    let positive = agreeing(start.positive_at[at], sets::has_line(gate.positive, line));
-    let negative = agreeing(start.negative_at[at], sets::has_line(gate.negative, line));
-    let targets = agreeing(start.targets_at[at], sets::has_line(K::targets(gate), line));
+    let roles = start.roles[x as usize];
+    let positive = agreeing(roles.positive, sets::has_line(gate.positive, line));
+    let negative = agreeing(roles.negative, sets::has_line(gate.negative, line));
+    let targets = agreeing(roles.targets, sets::has_line(K::targets(gate), line));
     candidates::numbers_below(start.frame.count) & (positive & (negative & targets))
 }
 
@@ -67,14 +81,10 @@ fn is_within(set: u64, other: u64) -> bool
 }
 
 // The distances behind this one all of whose blockers are chosen.
-pub(crate) fn eligible(start: &Start, chosen: u64, after: usize) -> u64
-    ensures { (k : KindMeaning) (gates : List Gate) (first : ℕ) → Started k gates first start.now → IsSet result (λ d. nat_lt d (length (frame_at gates first)) && (nat_lt after d && movable k (frame_at gates first) chosen d)) }
+pub(crate) fn eligible<K: GateKind>(start: &Start<K>, chosen: u64, after: usize) -> u64
+    ensures { IsSet result (λ d. nat_lt d (length (framed start.now.frame)) && (nat_lt after d && movable K.means (framed start.now.frame) chosen d)) }
 {
-    let mut distances = 0;
-    for distance in 0..start.frame.count {
-        if after < distance && is_within(start.blockers[distance], chosen) {
-            distances = candidates::with_number(distances, distance);
-        }
-    }
-    distances
+    numbers_where(start.frame.count, |distance| {
+        after < distance && is_within(start.blockers[distance], chosen)
+    })
 }

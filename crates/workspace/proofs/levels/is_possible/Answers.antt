@@ -1,32 +1,17 @@
-use Rattle.std.proofs.Common.{◌≡◌, ℕ, ◌<◌, min, sym, ap, ◌∙◌, arith}
-use Rattle.workspace.specs.Matching.{frame_at}
-use Rattle.workspace.specs.Notes.{can_stand, gate_of_lem, possible}
-use Rattle.workspace.proofs.Standing.{none_of, one_of, possible_none, possible_more, possible_fails}
+use Rattle.std.proofs.Common.{rules, ◌≡◌, List, Bool, Bor, ap, ◌∙◌, take}
+use Rattle.std.specs.List.{list_all}
+use Rattle.std.proofs.lemmas.Iterator.{YieldsList-from_slice, YieldsList-from_take}
+use Rattle.std.proofs.lemmas.Iterator.Consumers.{YieldsList-at}
+use Rattle.std.proofs.lemmas.Iterator.Search.{all_from_yields_List}
+use Rattle.workspace.specs.declared.notes.Image.{Image}
+use Rattle.workspace.specs.Notes.{can_stand, some_of}
+use Rattle.workspace.specs.Starts.{framed}
 use Rattle.workspace.proofs.levels.is_possible.Goals as goal
 
-pub loop-place-init : goal.loop-place-init
-loop-place-init g c gates first started below = possible_none g.K.GateKind.means (frame_at gates first) c.args.note.now c.args.line c.args.x
-
-pub returns-then-set-eq0 : goal.returns-then-set-eq0
-returns-then-set-eq0 g c gates first started below =
-    let k = g.K.GateKind.means in
-    let note = c.args.note.now in
-    let j = c.loop-place.place in
-    let inside : j < min c.args.few 8 = omega (arith, c.loop-place-test.true, c.min-place-end.ensures) in
-    let is = c.narrowed_set-set.ensures gates first started below in
-    sym (possible_fails k (frame_at gates first) note c.args.line c.args.x (min c.args.few 8) j inside
-    (none_of _ c.narrowed_set-set.result (can_stand k (frame_at gates first) (gate_of_lem note j) c.args.line c.args.x) is c.if-set-eq0.true))
-
-pub loop-place-preserved : goal.loop-place-preserved
-loop-place-preserved g c gates first started below =
-    let k = g.K.GateKind.means in
-    let note = c.args.note.now in
-    let j = c.loop-place.place in
-    let is = c.narrowed_set-set.ensures gates first started below in
-    possible_more k (frame_at gates first) note c.args.line c.args.x j (c.loop-place.invariant gates first started below)
-    (one_of _ c.narrowed_set-set.result (can_stand k (frame_at gates first) (gate_of_lem note j) c.args.line c.args.x) is c.narrowed_set-set.type_inv c.if-set-eq0.false)
-
 pub returns : goal.returns
-returns g c gates first started below =
-    let end : c.loop-place.place ≡ min c.args.few 8 = omega (arith, c.loop-place-test.false, c.loop-place.auto.place-end, c.min-place-end.ensures) in
-    sym (ap (λ (n : ℕ). possible g.K.GateKind.means (frame_at gates first) c.args.note.now n c.args.line c.args.x) (sym end) ∙ c.loop-place.invariant gates first started below)
+returns g c below =
+    let test : Image → Bool = λ m. some_of m.reached (can_stand g.K.GateKind.means (framed c.args.start.now.frame) m.member.gate c.args.line c.args.x) in
+    let images = YieldsList-at c.take.ensures.source (YieldsList-from_slice c.as_slice.result.now c.iter.ensures.rest) in
+    let all : c.all.result ≡ list_all test (take c.args.few c.as_slice.result.now) =
+    all_from_yields_List {v = λ (m : Bor Image). m.now} {s = c.take.result} test _ _ c.all.result c.all.ensures.ran (YieldsList-from_take c.args.few images c.take.ensures.count) (λ x b q called. search rules) in
+    all ∙ ap (λ (xs : List Image). list_all test (take c.args.few xs)) c.as_slice.ensures.is

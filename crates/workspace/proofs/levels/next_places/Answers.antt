@@ -1,9 +1,23 @@
-use Rattle.std.proofs.Common.{Bool, ◌&&◌, get_or, ap, ◌∙◌}
+use Rattle.std.proofs.Common.{◌≡◌, ◌≤◌, ◌&&◌, List, length, get_or, sym, ap, ap₂, ◌∙◌, arith}
+use Rattle.std.proofs.lemmas.List.{get_or_past}
+use Rattle.std.proofs.lemmas.Bool.{and_left, ltb-false}
+use Rattle.fixed_list.specs.Lists.{contents}
 use Rattle.gates.specs.Lines.{bit}
+use Rattle.gates.specs.Members.{bit_none}
 use Rattle.gates.proofs.Masks.{bit-bit_and}
+use Rattle.workspace.specs.declared.notes.Image.{Image}
+use Rattle.workspace.specs.Notes.{blank_image, image_at}
 use Rattle.workspace.proofs.levels.next_places.Goals as goal
 
-pub returns-then-place-lt8 : goal.returns-then-place-lt8
-returns-then-place-lt8 c k gates first started inside i l =
-    let set = get_or c.args.note.now.reached c.args.place 0 in
-    bit-bit_and set c.eligible.result i ∙ ap (λ (b : Bool). bit set i && b) (c.eligible.ensures k gates first started i l)
+pub returns-in-None : goal.returns-in-None
+returns-in-None g c i l =
+    let images = contents c.args.note.now.images in
+    let past : length images ≤ c.args.place = omega (arith, ltb-false c.args.place (length c.as_slice.result.now) (sym c.in-None.ensures.lookup.0), ap length c.as_slice.ensures.is) in
+    bit_none i
+    ∙ sym (and_left (bit (image_at c.args.note.now c.args.place).reached i) _ (ap (λ (m : Image). bit m.reached i) (get_or_past images c.args.place blank_image past) ∙ bit_none i))
+
+pub returns-in-Some : goal.returns-in-Some
+returns-in-Some g c i l =
+    let image = c.in-Some.image.now in
+    let is : image ≡ image_at c.args.note.now c.args.place = c.in-Some.ensures.lookup.3.1 blank_image ∙ ap (λ (xs : List Image). get_or xs c.args.place blank_image) c.as_slice.ensures.is in
+    bit-bit_and image.reached c.eligible.result i ∙ ap₂ ◌&&◌ (ap (λ (m : Image). bit m.reached i) is) (c.eligible.ensures i l)

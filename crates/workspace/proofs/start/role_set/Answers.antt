@@ -2,18 +2,18 @@ use Rattle.std.proofs.Common.{ℕ, get_or, ap, ◌∙◌, arith}
 use mathlib.Core.Bool.{beq}
 use Rattle.gates.specs.Lines.{bit}
 use Rattle.workspace.proofs.Starting.{roles_agree}
+use Rattle.workspace.specs.Starts.{no_roles}
 use Rattle.workspace.proofs.start.role_set.Goals as goal
 
 pub returns-then-x-ge-WIDTH : goal.returns-then-x-ge-WIDTH
-returns-then-x-ge-WIDTH g c gates first started l = absurd (let z : ⊥ = omega (arith, c.if-x-ge-WIDTH.true) in z)
+returns-then-x-ge-WIDTH g c l = absurd (let z : ⊥ = omega (arith, c.if-x-ge-WIDTH.true) in z)
 
 pub returns : goal.returns
-returns g c gates first started l =
+returns g c l =
     let s = c.args.start.now in
-    let t = c.args.gate in
-    let x = c.args.x in
-    roles_agree g.K.GateKind.means gates first s started t c.args.line x c.numbers_below.result c.agreeing-positive.result c.agreeing-negative.result c.agreeing-targets.result l
+    let has = get_or s.roles c.args.x no_roles in
+    roles_agree g.K.GateKind.means s.frame s.blockers s.roles s.known c.args.gate c.args.line c.args.x c.numbers_below.result c.agreeing-positive.result c.agreeing-negative.result c.agreeing-targets.result has (s.known.roles c.args.x l)
     c.numbers_below.ensures
-    (λ i il. c.agreeing-positive.ensures i il ∙ ap (beq (bit (get_or s.positive_at x 0) i)) c.has_line.ensures)
-    (λ i il. c.agreeing-negative.ensures i il ∙ ap (beq (bit (get_or s.negative_at x 0) i)) c.has_line-2.ensures)
-    (λ i il. c.agreeing-targets.ensures i il ∙ ap (beq (bit (get_or s.targets_at x 0) i)) (c.has_line-3.ensures ∙ ap (λ (set : ℕ). bit set c.args.line) c.targets.ensures))
+    (λ i il. c.agreeing-positive.ensures i il ∙ ap (beq (bit has.positive i)) c.has_line.ensures)
+    (λ i il. c.agreeing-negative.ensures i il ∙ ap (beq (bit has.negative i)) c.has_line-2.ensures)
+    (λ i il. c.agreeing-targets.ensures i il ∙ ap (beq (bit has.targets i)) (c.has_line-3.ensures ∙ ap (λ (set : ℕ). bit set c.args.line) c.targets.ensures))
