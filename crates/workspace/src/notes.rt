@@ -1,7 +1,8 @@
 // Notes: what the search keeps of a key, so that it need not be worked out again for longer keys.
 use super::posed::Member;
-use super::template::{BLANK, MOST_GATES};
+use super::template::MOST_GATES;
 use fixed_list::FixedList;
+use gates::Gate;
 
 // A gate of a posed template, and the distances from the first place at which its image can stand.
 #[derive(Clone, Copy)]
@@ -14,7 +15,7 @@ pub(crate) struct Image {
 pub(crate) const NO_IMAGE: Image = Image {
     member: Member {
         position: 0,
-        gate: BLANK,
+        gate: Gate::BLANK,
     },
     reached: 0,
 };
