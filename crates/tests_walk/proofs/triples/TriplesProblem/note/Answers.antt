@@ -5,9 +5,6 @@ use Rattle.tests_walk.specs.Triples.{sum_of}
 use Rattle.tests_walk.proofs.Sums.{sum_push}
 use Rattle.tests_walk.proofs.triples.TriplesProblem.note.Goals as goal
 
-pub returns-then-count-eq0 : goal.returns-then-count-eq0
-returns-then-count-eq0 c sound prefix v e first above = absurd (let z : ⊥ = omega (arith, ap length e, length_push prefix v) in z)
-
 pub returns-else-count-eq0 : goal.returns-else-count-eq0
 returns-else-count-eq0 c sound prefix v e first above =
     let place : length prefix ≡ c.len-count.result - 1 = omega (arith, ap length e, length_push prefix v) in
