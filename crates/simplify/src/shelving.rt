@@ -12,19 +12,15 @@ const INVERSION: Gate = gate!(t 0);
 // Two exchanges.
 const EXCHANGES: [Gate; 2] = [gate!(f 0 1); 2];
 
-// What became of a call.
+// What became of a call: the word for it where it is done, else why it is refused.
 #[derive(Clone, Copy)]
-struct Outcome {
-    // The word for it where it is done.
-    done: &'static str,
-    answer: Result<(), TemplateRefusal>,
-}
+struct Outcome(Result<&'static str, TemplateRefusal>);
 
 // The word, or the refusal by number.
 impl fmt::Display for Outcome {
     fn fmt<W: fmt::Write>(&self, f: &mut fmt::Formatter<W>) -> fmt::Result {
-        match self.answer {
-            Ok(()) => f.write_str(self.done),
+        match self.0 {
+            Ok(done) => f.write_str(done),
             Err(refusal) => write!(f, "refused {}", refusal.number()),
         }
     }
@@ -59,19 +55,15 @@ impl<'a, R: Print, S: Store> Shelving<'a, R, S> {
             gates,
             groups,
         };
-        let outcome = Outcome {
-            done: "shelved",
-            answer: self.workspace.shelve(&proposal),
-        };
+        let answer = self.workspace.shelve(&proposal);
+        let outcome = Outcome(answer.map(|()| "shelved"));
         println!(self.rt; "{title}: {outcome}")
     }
 
     // Withdraws an entry, and prints what became of it.
     fn withdraw(&mut self, number: usize) -> io::Result<()> {
-        let outcome = Outcome {
-            done: "done",
-            answer: self.workspace.withdraw(number),
-        };
+        let answer = self.workspace.withdraw(number);
+        let outcome = Outcome(answer.map(|()| "done"));
         println!(self.rt; "withdraw {number}: {outcome}")
     }
 

@@ -51,11 +51,11 @@ fn check_far<S: Store<Kind = Toffoli> + Drop>(
 ) {
     let mut bench = Bench::new(rt, store);
     assert_eq!(rt; bench.shelve(1, &[T0, T0], &[]), Ok(()));
-    bench.append_all(&[T0]);
-    for place in 0..between {
-        bench.append_all(&[apart(place)]);
+    assert_eq!(rt; bench.append(T0), Ok(()));
+    for gate in (0..between).map(apart) {
+        assert_eq!(rt; bench.append(gate), Ok(()));
     }
-    bench.append_all(&[T0]);
+    assert_eq!(rt; bench.append(T0), Ok(()));
     assert_eq!(rt; bench.workspace.sweep(), expected);
 }
 
