@@ -1,4 +1,7 @@
 // The ways of all states through a cascade and back.
+ghost use Rattle.std.specs.Prelude.{◌≡◌, ℕ, ◌<◌, length, slice_index_or};
+ghost use Rattle.simplify.specs.declared.round_trip.RoundTrip.{RoundTrip};
+
 use crate::adder::{LINES, STATES};
 use crate::round_trip::RoundTrip;
 use gates::Gate;
@@ -12,8 +15,11 @@ pub struct Trips {
 }
 
 impl Trips {
-    // The ways through the cascade `there` and then through the cascade `back`.
-    pub fn new(there: &[Gate], back: &[Gate]) -> Trips {
+    // The ways through the cascade `there` and then through the cascade `back`, of the states in order.
+    pub fn new(there: &[Gate], back: &[Gate]) -> Trips
+        ensures gates { result.gates ≡ length there.now }
+        ensures starts { (i : ℕ) (other : RoundTrip) → i < 16 → (slice_index_or result.ways i other).start ≡ i }
+    {
         Trips {
             gates: there.len(),
             ways: array::from_fn(|start| RoundTrip::new(there, back, start as u32)),
