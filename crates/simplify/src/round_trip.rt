@@ -4,6 +4,7 @@ ghost use Rattle.gates.specs.Cascades.{run};
 ghost use Rattle.gates.specs.Lines.{bit};
 ghost use Rattle.gates.specs.Toffoli.{toffoli};
 
+use crate::adder::LINES;
 use gates::{Gate, LineSet, Toffoli, run_cascade, sets};
 use std::fmt;
 
@@ -46,20 +47,22 @@ fn digit(state: LineSet, line: u8) -> u8
     u8::from(sets::has_line(state, line))
 }
 
-// The values of lines 0 to 3 at the start and where the cascade led, line 0 first, as `1010 -> 1101`.
-impl fmt::Display for RoundTrip {
+// The values of lines 0 to 3, line 0 first.
+#[derive(Clone, Copy)]
+struct Values(LineSet);
+
+impl fmt::Display for Values {
     fn fmt<W: fmt::Write>(&self, f: &mut fmt::Formatter<W>) -> fmt::Result {
-        write_values(self.start, f)?;
-        f.write_str(" -> ")?;
-        write_values(self.reached, f)
+        for line in 0..LINES {
+            write!(f, "{}", digit(self.0, line))?;
+        }
+        Ok(())
     }
 }
 
-// The values of lines 0 to 3, line 0 first.
-fn write_values<W: fmt::Write>(state: LineSet, f: &mut fmt::Formatter<W>) -> fmt::Result {
-    for line in 0..4u8 {
-        let value = digit(state, line);
-        write!(f, "{value}")?;
+// The values at the start and where the cascade led, as `1010 -> 1101`.
+impl fmt::Display for RoundTrip {
+    fn fmt<W: fmt::Write>(&self, f: &mut fmt::Formatter<W>) -> fmt::Result {
+        write!(f, "{} -> {}", Values(self.start), Values(self.reached))
     }
-    Ok(())
 }

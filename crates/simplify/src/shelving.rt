@@ -1,195 +1,110 @@
 // Templates put on a shelf and taken off it.
 use gates::{Fredkin, Gate, Toffoli};
-use search::{Earliest, Policy};
-use std::io;
+use samples::{FIVE, FIVE_GROUPS, gate};
+use search::Earliest;
+use std::{fmt, io};
 use stores::{PlainStore, Store};
-use workspace::{Proposal, TemplateRefusal, Workspace};
+use workspace::{PositionSet, Proposal, TemplateRefusal, Workspace};
 
-// `t 0`.
-const INVERSION: Gate = Gate {
-    a: 0,
-    b: 0,
-    positive: 0,
-    negative: 0,
-};
+// An inversion.
+const INVERSION: Gate = gate!(t 0);
 
-// `t 0; t 0`.
-const PAIR: [Gate; 2] = [INVERSION; 2];
+// Two exchanges.
+const EXCHANGES: [Gate; 2] = [gate!(f 0 1); 2];
 
-// `t 0 +1; t 1; t 0 +1; t 1; t 0`.
-const FIVE: [Gate; 5] = [
-    Gate {
-        a: 0,
-        b: 0,
-        positive: 0b10,
-        negative: 0,
-    },
-    Gate {
-        a: 1,
-        b: 0,
-        positive: 0,
-        negative: 0,
-    },
-    Gate {
-        a: 0,
-        b: 0,
-        positive: 0b10,
-        negative: 0,
-    },
-    Gate {
-        a: 1,
-        b: 0,
-        positive: 0,
-        negative: 0,
-    },
-    INVERSION,
-];
+// What became of a call: the word for it where it is done, else why it is refused.
+#[derive(Clone, Copy)]
+struct Outcome(Result<&'static str, TemplateRefusal>);
 
-// `f 0 1; f 0 1`.
-const EXCHANGES: [Gate; 2] = [
-    Gate {
-        a: 0,
-        b: 1,
-        positive: 0,
-        negative: 0,
-    },
-    Gate {
-        a: 0,
-        b: 1,
-        positive: 0,
-        negative: 0,
-    },
-];
-
-// Prints what became of a call: `done`, which is the word for it, or its refusal by number.
-fn tell_outcome(
-    rt: &HostRuntime,
-    title: &str,
-    done: &str,
-    outcome: Result<(), TemplateRefusal>,
-) -> io::Result<()> {
-    match outcome {
-        Ok(_) => println!(rt; "{title}: {done}"),
-        Err(refusal) => {
-            let number = refusal.number();
-            println!(rt; "{title}: refused {number}")
+// The word, or the refusal by number.
+impl fmt::Display for Outcome {
+    fn fmt<W: fmt::Write>(&self, f: &mut fmt::Formatter<W>) -> fmt::Result {
+        match self.0 {
+            Ok(done) => f.write_str(done),
+            Err(refusal) => write!(f, "refused {}", refusal.number()),
         }
     }
 }
 
-// Shelves a template, and prints what became of it.
-fn tell_shelve<S: Store, P: Policy>(
-    rt: &HostRuntime,
-    workspace: &mut Workspace<S, P>,
-    title: &str,
-    proposal: &Proposal,
-) -> io::Result<()> {
-    tell_outcome(rt, title, "shelved", workspace.shelve(proposal))
+// A workspace whose policy takes the earliest, and where it is told what becomes of its shelf.
+#[derive(Drop)]
+struct Shelving<'a, R, S> {
+    rt: &'a R,
+    workspace: Workspace<S, Earliest>,
 }
 
-// Withdraws an entry, and prints what became of it.
-fn tell_withdraw<S: Store, P: Policy>(
-    rt: &HostRuntime,
-    workspace: &mut Workspace<S, P>,
-    number: usize,
-) -> io::Result<()> {
-    print!(rt; "withdraw {number}")?;
-    tell_outcome(rt, "", "done", workspace.withdraw(number))
-}
-
-// Prints each entry's number with its count, and how many there are.
-fn tell_entries<S: Store, P: Policy>(
-    rt: &HostRuntime,
-    workspace: &Workspace<S, P>,
-) -> io::Result<()> {
-    let count = workspace.entry_count();
-    for number in 0..count {
-        if let Ok(replacements) = workspace.replacements(number) {
-            println!(rt; "entry {number}: replacements {replacements}")?;
+impl<'a, R: Print, S: Store> Shelving<'a, R, S> {
+    // The workspace on a store.
+    fn new(rt: &'a R, store: S) -> Shelving<'a, R, S> {
+        Shelving {
+            rt,
+            workspace: Workspace::new(store, Earliest {}),
         }
     }
-    println!(rt; "entries {count}")
+
+    // Shelves a template, and prints what became of it.
+    fn shelve(
+        &mut self,
+        title: &str,
+        lines: u8,
+        gates: &[Gate],
+        groups: &[PositionSet],
+    ) -> io::Result<()> {
+        let proposal = Proposal {
+            lines,
+            gates,
+            groups,
+        };
+        let answer = self.workspace.shelve(&proposal);
+        let outcome = Outcome(answer.map(|()| "shelved"));
+        println!(self.rt; "{title}: {outcome}")
+    }
+
+    // Withdraws an entry, and prints what became of it.
+    fn withdraw(&mut self, number: usize) -> io::Result<()> {
+        let answer = self.workspace.withdraw(number);
+        let outcome = Outcome(answer.map(|()| "done"));
+        println!(self.rt; "withdraw {number}: {outcome}")
+    }
+
+    // Prints each entry's number with its count, and how many there are.
+    fn tell_entries(&self) -> io::Result<()> {
+        let count = self.workspace.entry_count();
+        for number in 0..count {
+            if let Ok(replacements) = self.workspace.replacements(number) {
+                println!(self.rt; "entry {number}: replacements {replacements}")?;
+            }
+        }
+        println!(self.rt; "entries {count}")
+    }
 }
 
-// Shelves the pair, and the five gates with their groups.
-fn tell_classics<S: Store<Kind = Toffoli>, P: Policy>(
-    rt: &HostRuntime,
-    workspace: &mut Workspace<S, P>,
-) -> io::Result<()> {
-    let pair = Proposal {
-        lines: 1,
-        gates: &PAIR,
-        groups: &[],
-    };
-    tell_shelve(rt, workspace, "pair", &pair)?;
-    let five = Proposal {
-        lines: 2,
-        gates: &FIVE,
-        groups: &[0b10101, 0b11010],
-    };
-    tell_shelve(rt, workspace, "five", &five)
-}
-
-// Proposes the five without the last, which do not restore, and four inversions, of which two groups leave one.
-fn tell_refused<S: Store<Kind = Toffoli>, P: Policy>(
-    rt: &HostRuntime,
-    workspace: &mut Workspace<S, P>,
-) -> io::Result<()> {
-    let short = Proposal {
-        lines: 2,
-        gates: &FIVE[0..4],
-        groups: &[],
-    };
-    tell_shelve(rt, workspace, "five without the last", &short)?;
-    let four = Proposal {
-        lines: 1,
-        gates: &[INVERSION; 4],
-        groups: &[0b11, 0b110],
-    };
-    tell_shelve(rt, workspace, "four inversions", &four)
-}
-
-// A shelf of Toffoli templates: shelves some, withdraws the second, and asks for a number that is no longer there.
-fn tell_toffoli<S: Store<Kind = Toffoli> + Drop>(rt: &HostRuntime, store: S) -> io::Result<()> {
-    let mut workspace = Workspace::new(store, Earliest {});
-    tell_classics(rt, &mut workspace)?;
-    tell_refused(rt, &mut workspace)?;
-    let again = Proposal {
-        lines: 1,
-        gates: &PAIR,
-        groups: &[],
-    };
-    tell_shelve(rt, &mut workspace, "pair again", &again)?;
-    tell_entries(rt, &workspace)?;
-    tell_withdraw(rt, &mut workspace, 1)?;
-    tell_entries(rt, &workspace)?;
-    tell_withdraw(rt, &mut workspace, 2)
+// A shelf of Toffoli templates: the pair, and the five gates with their groups; the five without the last, which do not
+// restore, and four inversions, of which two groups leave one; withdraws the second, and asks for a number that is no longer there.
+fn tell_toffoli<S: Store<Kind = Toffoli> + Drop>(rt: &impl Print, store: S) -> io::Result<()> {
+    let mut shelf = Shelving::new(rt, store);
+    shelf.shelve("pair", 1, &[INVERSION; 2], &[])?;
+    shelf.shelve("five", 2, &FIVE, &FIVE_GROUPS)?;
+    shelf.shelve("five without the last", 2, &FIVE[..4], &[])?;
+    shelf.shelve("four inversions", 1, &[INVERSION; 4], &[0b11, 0b110])?;
+    shelf.shelve("pair again", 1, &[INVERSION; 2], &[])?;
+    shelf.tell_entries()?;
+    shelf.withdraw(1)?;
+    shelf.tell_entries()?;
+    shelf.withdraw(2)
 }
 
 // A shelf of Fredkin templates: the two exchanges, and the pair, whose gates are no Fredkin gates.
-fn tell_fredkin<S: Store<Kind = Fredkin> + Drop>(rt: &HostRuntime, store: S) -> io::Result<()> {
-    let mut workspace = Workspace::new(store, Earliest {});
-    let exchanges = Proposal {
-        lines: 2,
-        gates: &EXCHANGES,
-        groups: &[],
-    };
-    tell_shelve(rt, &mut workspace, "exchanges", &exchanges)?;
-    let pair = Proposal {
-        lines: 1,
-        gates: &PAIR,
-        groups: &[],
-    };
-    tell_shelve(rt, &mut workspace, "pair of another kind", &pair)?;
-    tell_entries(rt, &workspace)
+fn tell_fredkin<S: Store<Kind = Fredkin> + Drop>(rt: &impl Print, store: S) -> io::Result<()> {
+    let mut shelf = Shelving::new(rt, store);
+    shelf.shelve("exchanges", 2, &EXCHANGES, &[])?;
+    shelf.shelve("pair of another kind", 1, &[INVERSION; 2], &[])?;
+    shelf.tell_entries()
 }
 
 // Shelves templates in a workspace of each kind, and prints what becomes of them.
-pub fn tell_shelving(rt: &HostRuntime) -> io::Result<()> {
+pub fn tell_shelving(rt: &impl Print) -> io::Result<()> {
     let mut records = [INVERSION; 1];
-    let toffoli: PlainStore<Toffoli> = PlainStore::new(&mut records, 2);
-    tell_toffoli(rt, toffoli)?;
-    let mut records = [INVERSION; 1];
-    let fredkin: PlainStore<Fredkin> = PlainStore::new(&mut records, 2);
-    tell_fredkin(rt, fredkin)
+    tell_toffoli::<PlainStore<Toffoli>>(rt, PlainStore::new(&mut records, 2))?;
+    tell_fredkin::<PlainStore<Fredkin>>(rt, PlainStore::new(&mut records, 2))
 }

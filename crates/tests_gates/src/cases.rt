@@ -1,8 +1,9 @@
 // The gates and tables that the tests go through.
-use crate::slow;
 use crate::slow::SlowKind;
 use gates::Gate;
 use std::alloc::{AllocError, Global};
+use std::process::Abort;
+use std::test::Fail;
 
 // How many records there are with `a` and `b` below 5 and sets of lines below 5.
 pub const RECORDS: u32 = 25_600;
@@ -19,14 +20,27 @@ pub fn record(number: u32) -> Gate {
 
 // All gates that are well formed for `lines` lines, at most 4.
 pub fn all_gates<K: SlowKind>(heap: Global, lines: u8) -> Result<Vec<Gate>, AllocError> {
-    let mut gates = Vec::new(heap);
-    for number in 0..RECORDS {
-        let gate = record(number);
-        if slow::is_well_formed::<K>(gate, lines) {
-            gates.push(gate)?;
-        }
+    (0..RECORDS)
+        .map(record)
+        .filter(|gate| K::is_formed(*gate, lines))
+        .collect(heap)
+}
+
+// Checks all gates that are well formed for `lines` lines, at most 4, of which there are so many.
+pub(crate) fn check_each<K: SlowKind, R: Abort + AllocGlobal, F: Fn(Gate)>(
+    rt: &R,
+    lines: u8,
+    count: usize,
+    check: F,
+) -> Result<(), Fail>
+    requires { F.IsAlwaysCallable check }
+{
+    let gates = all_gates::<K>(rt.alloc(), lines)?;
+    for gate in gates.iter() {
+        check(*gate);
     }
-    Ok(gates)
+    assert_eq!(rt; gates.len(), count);
+    Ok(())
 }
 
 // The rearrangements of three lines, each with the one that leads back.

@@ -12,4 +12,6 @@ mod rules;
 #[cfg(test)]
 mod slow;
 #[cfg(test)]
+mod states;
+#[cfg(test)]
 mod values;

@@ -1,9 +1,9 @@
 // Slow rules: what the gates of a kind are and do, line by line, over the values of four lines.
-use crate::values::*;
-use gates::{Fredkin, Gate, Toffoli};
+use crate::values::Values;
+use gates::{Fredkin, Gate, GateKind, Toffoli};
 
-// What differs from kind to kind.
-pub trait SlowKind {
+// What differs from kind to kind, and what follows from it.
+pub trait SlowKind: GateKind {
     // Whether the line is a target or an exchanged line of the gate.
     fn is_target(gate: Gate, line: u8) -> bool;
 
@@ -15,6 +15,40 @@ pub trait SlowKind {
 
     // Whether there is a gate that does what this one does between two inversions of the chosen lines.
     fn has_flipped(gate: Gate, chosen: Values) -> bool;
+
+    // How many parts the line has in the gate: positive control, negative control, target.
+    fn parts(gate: Gate, line: u8) -> u8 {
+        u8::from(Values::from(gate.positive).at(line))
+            + u8::from(Values::from(gate.negative).at(line))
+            + u8::from(Self::is_target(gate, line))
+    }
+
+    // Whether the gate is well formed for `lines` lines, at most 4: its fields are right, and each line has at most one part in it, none from `lines` on.
+    fn is_formed(gate: Gate, lines: u8) -> bool {
+        gate.positive < 16
+            && gate.negative < 16
+            && Self::are_fields_right(gate, lines)
+            && (0..4u8).all(|line| Self::parts(gate, line) <= u8::from(line < lines))
+    }
+
+    // The values that the gate leads to.
+    fn leads(gate: Gate, state: Values) -> Values {
+        if do_controls_hold(gate, state) {
+            Self::act(gate, state)
+        } else {
+            state
+        }
+    }
+}
+
+// Whether all positive controls are 1 and all negative ones are 0.
+fn do_controls_hold(gate: Gate, state: Values) -> bool {
+    let positive = Values::from(gate.positive);
+    let negative = Values::from(gate.negative);
+    (0..4u8).all(|line| {
+        let value = state.at(line);
+        (value || !positive.at(line)) && !(value && negative.at(line))
+    })
 }
 
 impl SlowKind for Toffoli {
@@ -27,7 +61,7 @@ impl SlowKind for Toffoli {
     }
 
     fn act(gate: Gate, state: Values) -> Values {
-        with_value(state, gate.a, !value_at(state, gate.a))
+        state.with(gate.a, !state.at(gate.a))
     }
 
     fn has_flipped(_gate: Gate, _chosen: Values) -> bool {
@@ -45,65 +79,12 @@ impl SlowKind for Fredkin {
     }
 
     fn act(gate: Gate, state: Values) -> Values {
-        let half = with_value(state, gate.a, value_at(state, gate.b));
-        with_value(half, gate.b, value_at(state, gate.a))
+        state
+            .with(gate.a, state.at(gate.b))
+            .with(gate.b, state.at(gate.a))
     }
 
     fn has_flipped(gate: Gate, chosen: Values) -> bool {
-        value_at(chosen, gate.a) == value_at(chosen, gate.b)
-    }
-}
-
-// The values with one line's replaced.
-fn with_value(state: Values, line: u8, value: bool) -> Values {
-    let mut changed = state;
-    let place = line as usize;
-    if place < 4 {
-        changed[place] = value;
-    }
-    changed
-}
-
-// How many parts the line has in the gate: positive control, negative control, target.
-pub fn parts<K: SlowKind>(gate: Gate, line: u8) -> u8 {
-    u8::from(value_at(values_of(gate.positive), line))
-        + u8::from(value_at(values_of(gate.negative), line))
-        + u8::from(K::is_target(gate, line))
-}
-
-// Whether the gate is well formed for `lines` lines, at most 4: its fields are right, and each line has at most one part in it, none from `lines` on.
-pub fn is_well_formed<K: SlowKind>(gate: Gate, lines: u8) -> bool {
-    if gate.positive >= 16 || gate.negative >= 16 || !K::are_fields_right(gate, lines) {
-        return false;
-    }
-    for line in 0..4u8 {
-        let most = u8::from(line < lines);
-        if parts::<K>(gate, line) > most {
-            return false;
-        }
-    }
-    true
-}
-
-// Whether all positive controls are 1 and all negative ones are 0.
-fn do_controls_hold(gate: Gate, state: Values) -> bool {
-    for line in 0..4u8 {
-        let value = value_at(state, line);
-        if value_at(values_of(gate.positive), line) && !value {
-            return false;
-        }
-        if value_at(values_of(gate.negative), line) && value {
-            return false;
-        }
-    }
-    true
-}
-
-// The values that the gate leads to.
-pub fn run<K: SlowKind>(gate: Gate, state: Values) -> Values {
-    if do_controls_hold(gate, state) {
-        K::act(gate, state)
-    } else {
-        state
+        chosen.at(gate.a) == chosen.at(gate.b)
     }
 }

@@ -9,58 +9,26 @@ use stores::{Store, StoreRefusal};
 // How many calls a pile is driven through.
 pub const STEPS: u32 = 300;
 
-// How many calls were answered, and how many were refused with each number.
-#[derive(Clone, Copy)]
-pub struct Tally {
-    pub answered: u32,
-    pub bad_gates: u32,
-    pub full: u32,
-    pub no_places: u32,
+// How many calls were answered, and how many were refused for each reason.
+#[derive(Clone, Copy, Default)]
+struct Tally {
+    answered: u32,
+    bad_gates: u32,
+    full: u32,
+    no_places: u32,
 }
 
 impl Tally {
-    // No calls.
-    pub fn new() -> Tally {
-        Tally {
-            answered: 0,
-            bad_gates: 0,
-            full: 0,
-            no_places: 0,
-        }
-    }
-
     // Counts what a call came to.
-    fn count<T>(&mut self, answer: &Result<T, u8>) {
-        match answer {
-            Ok(_) => self.answered = self.answered.saturating_add(1),
-            Err(2) => self.bad_gates = self.bad_gates.saturating_add(1),
-            Err(3) => self.full = self.full.saturating_add(1),
-            Err(_) => self.no_places = self.no_places.saturating_add(1),
-        }
+    fn count<T>(&mut self, answer: &Result<T, StoreRefusal>) {
+        let calls = match answer {
+            Ok(_) => &mut self.answered,
+            Err(StoreRefusal::Gate(_)) => &mut self.bad_gates,
+            Err(StoreRefusal::Full) => &mut self.full,
+            Err(_) => &mut self.no_places,
+        };
+        *calls = calls.saturating_add(1);
     }
-}
-
-// The answer with the refusal's number.
-pub fn numbered<T>(answer: Result<T, StoreRefusal>) -> Result<T, u8> {
-    match answer {
-        Ok(value) => Ok(value),
-        Err(refusal) => Err(refusal.number()),
-    }
-}
-
-// The store shows the list, gate for gate, and can hold as many gates.
-pub fn check_same<S: Store>(rt: &impl Abort, store: &S, model: &Model) {
-    assert_eq!(rt; store.lines(), 4);
-    assert_eq!(rt; store.capacity(), model.capacity);
-    assert_eq!(rt; store.count(), model.count);
-    for place in 0..model.count {
-        assert_eq!(rt;
-            numbered(store.read(place)),
-            Ok(model.at(place)),
-            "place {place}"
-        );
-    }
-    assert_eq!(rt; numbered(store.read(model.count)), Err(9));
 }
 
 // A sequence of calls by a seed, and what they came to.
@@ -75,22 +43,11 @@ impl Run {
     pub fn new(seed: u32) -> Run {
         Run {
             source: Source::new(seed),
-            tally: Tally::new(),
+            tally: Tally::default(),
         }
     }
 
-    // The next call, with the same answer by both, after which the store shows the list.
-    pub fn step<S: Store, K: TestKind>(
-        &mut self,
-        rt: &impl Abort,
-        store: &mut S,
-        model: &mut Model,
-    ) {
-        perform::<S, K>(rt, store, model, &mut self.source, &mut self.tally);
-        check_same(rt, store, model);
-    }
-
-    // Many calls were answered, and each number of refusal occurred.
+    // Many calls were answered, and each reason of refusal occurred.
     pub fn check_varied(&self, rt: &impl Abort) {
         assert!(rt; self.tally.answered > 100);
         assert!(rt; self.tally.bad_gates > 5);
@@ -99,52 +56,97 @@ impl Run {
     }
 }
 
-// One call, with the same answer by both.
-fn perform<S: Store, K: TestKind>(
-    rt: &impl Abort,
-    store: &mut S,
-    model: &mut Model,
-    source: &mut Source,
-    tally: &mut Tally,
-) {
-    let call = source.next() % 8;
-    let place = source.next_place(model.count);
-    let gate = K::gate_of(source.next());
-    if call < 4 {
-        let expected = model.insert::<K>(place, gate);
-        tally.count(&expected);
-        assert_eq!(rt; numbered(store.insert(place, gate)), expected);
-    } else if call < 6 {
-        let expected = model.remove(place);
-        tally.count(&expected);
-        assert_eq!(rt; numbered(store.remove(place)), expected);
-    } else {
-        let expected = model.overwrite::<K>(place, gate);
-        tally.count(&expected);
-        assert_eq!(rt; numbered(store.overwrite(place, gate)), expected);
-    }
+// The answer with the refusal's number.
+pub fn numbered<T>(answer: Result<T, StoreRefusal>) -> Result<T, u8> {
+    answer.map_err(|refusal| refusal.number())
 }
 
-// All the calls of a seed; each number of refusal has to occur.
-pub fn drive<S: Store, K: TestKind>(rt: &impl Abort, store: &mut S, model: &mut Model, seed: u32) {
-    let mut run = Run::new(seed);
-    check_same(rt, store, model);
-    for _ in 0..STEPS {
-        run.step::<S, K>(rt, store, model);
+// The store with the gate put in so many times, each before the others.
+pub fn filled<S: Store>(rt: &impl Abort, store: S, gate: Gate, times: u32) -> S {
+    let mut store = store;
+    for _ in 0..times {
+        assert_eq!(rt; numbered(store.insert(0, gate)), Ok(()));
     }
-    run.check_varied(rt);
+    store
 }
 
-// Takes gates out and puts gates in until the list has 8.
-pub fn refill<S: Store, K: TestKind>(rt: &impl Abort, store: &mut S, model: &mut Model) {
-    let mut source = Source::new(8);
-    for _ in 0..200u32 {
-        let gate = K::gate_of(source.next());
-        if model.count < 8 {
-            assert_eq!(rt; numbered(store.insert(0, gate)), model.insert::<K>(0, gate));
-        } else if model.count > 8 {
-            assert_eq!(rt; numbered(store.remove(8)), model.remove(8));
+// A store, and the list that it has to show.
+#[derive(Drop)]
+pub struct Followed<S> {
+    pub store: S,
+    pub model: Model,
+}
+
+impl<S: Store> Followed<S>
+where
+    S::Kind: TestKind,
+{
+    // The store with the list, which it shows.
+    pub fn new(rt: &impl Abort, store: S, model: Model) -> Followed<S> {
+        let followed = Followed { store, model };
+        followed.check_same(rt);
+        followed
+    }
+
+    // The store shows the list, gate for gate, and can hold as many gates.
+    fn check_same(&self, rt: &impl Abort) {
+        let count = self.model.count();
+        assert_eq!(rt; self.store.lines(), 4);
+        assert_eq!(rt; self.store.capacity(), self.model.capacity);
+        assert_eq!(rt; self.store.count(), count);
+        for (place, gate) in self.model.gates().iter().enumerate() {
+            assert_eq!(rt; self.store.read(place), Ok(*gate), "place {place}");
+        }
+        assert_eq!(rt; numbered(self.store.read(count)), Err(9));
+    }
+
+    // One call, with the same answer by both.
+    fn call(&mut self, rt: &impl Abort, run: &mut Run) {
+        let call = run.source.draw() % 8;
+        let place = run.source.draw_place(self.model.count());
+        let gate = S::Kind::gate_of(run.source.draw());
+        if call < 4 {
+            let expected = self.model.insert::<S::Kind>(place, gate);
+            run.tally.count(&expected);
+            assert_eq!(rt; self.store.insert(place, gate), expected);
+        } else if call < 6 {
+            let expected = self.model.remove(place);
+            run.tally.count(&expected);
+            assert_eq!(rt; self.store.remove(place), expected);
+        } else {
+            let expected = self.model.overwrite::<S::Kind>(place, gate);
+            run.tally.count(&expected);
+            assert_eq!(rt; self.store.overwrite(place, gate), expected);
         }
     }
-    assert_eq!(rt; model.count, 8);
+
+    // The next call, after which the store shows the list.
+    pub fn step(&mut self, rt: &impl Abort, run: &mut Run) {
+        self.call(rt, run);
+        self.check_same(rt);
+    }
+
+    // All the calls of a seed; each reason of refusal has to occur.
+    pub fn drive(&mut self, rt: &impl Abort, seed: u32) {
+        let mut run = Run::new(seed);
+        for _ in 0..STEPS {
+            self.step(rt, &mut run);
+        }
+        run.check_varied(rt);
+    }
+
+    // Takes gates out and puts gates in until the list has 8.
+    pub fn refill(&mut self, rt: &impl Abort) {
+        let mut source = Source::new(8);
+        for _ in 0..200u32 {
+            let gate = S::Kind::gate_of(source.draw());
+            if self.model.count() < 8 {
+                let expected = self.model.insert::<S::Kind>(0, gate);
+                assert_eq!(rt; self.store.insert(0, gate), expected);
+            } else if self.model.count() > 8 {
+                assert_eq!(rt; self.store.remove(8), self.model.remove(8));
+            }
+        }
+        assert_eq!(rt; self.model.count(), 8);
+    }
 }

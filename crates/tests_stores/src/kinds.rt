@@ -1,11 +1,11 @@
 // Slow rules of the two kinds on four lines.
-use gates::{Fredkin, Gate, LineSet, Toffoli};
+use gates::{Fredkin, Gate, GateKind, LineSet, Toffoli};
 
 // A line table of four lines.
 pub type Table = [u8; 4];
 
 // What differs from kind to kind.
-pub trait TestKind {
+pub trait TestKind: GateKind {
     // The gate of a number: well formed for four lines, but for one in eight.
     fn gate_of(number: u32) -> Gate;
 
@@ -18,12 +18,8 @@ pub trait TestKind {
 
 impl TestKind for Toffoli {
     fn gate_of(number: u32) -> Gate {
-        controlled(
-            (number % 4) as u8,
-            0,
-            weight((number % 4) as u8),
-            number / 4,
-        )
+        let target = (number % 4) as u8;
+        controlled(target, 0, weight(target), number / 4)
     }
 
     fn is_formed(gate: Gate) -> bool {
@@ -40,9 +36,12 @@ impl TestKind for Toffoli {
     }
 }
 
+// The pairs of lines, in order.
+const PAIRS: [(u8, u8); 6] = [(0, 1), (0, 2), (0, 3), (1, 2), (1, 3), (2, 3)];
+
 impl TestKind for Fredkin {
     fn gate_of(number: u32) -> Gate {
-        let (a, b) = pair((number % 6) as u8);
+        let (a, b) = PAIRS[(number % 6) as usize];
         controlled(a, b, weight(a) | weight(b), number / 6)
     }
 
@@ -62,31 +61,16 @@ impl TestKind for Fredkin {
     }
 }
 
-// The pair of lines of a number below 6.
-fn pair(number: u8) -> (u8, u8) {
-    match number {
-        0 => (0, 1),
-        1 => (0, 2),
-        2 => (0, 3),
-        3 => (1, 2),
-        4 => (1, 3),
-        _ => (2, 3),
-    }
-}
-
 // The gate with these fields and with controls by a number; for one number in eight a target is a control too.
 fn controlled(a: u8, b: u8, targets: LineSet, number: u32) -> Gate {
     let free = 15 & !targets;
     let positive = number / 8 % 16 & free;
     let negative = number / 128 % 16 & free & !positive;
+    let own = if number % 8 == 0 { targets } else { 0 };
     Gate {
         a,
         b,
-        positive: if number % 8 == 0 {
-            positive | targets
-        } else {
-            positive
-        },
+        positive: positive | own,
         negative,
     }
 }
@@ -102,28 +86,17 @@ fn is_part_once(gate: Gate, targets: LineSet) -> bool {
 
 // The set of one line; of none from line 4 on.
 fn weight(line: u8) -> LineSet {
-    match line {
-        0 => 1,
-        1 => 2,
-        2 => 4,
-        3 => 8,
-        _ => 0,
-    }
+    if line < 4 { 1 << line } else { 0 }
 }
 
 // The table's entry for a line; 0 from line 4 on.
 fn new_line(table: Table, line: u8) -> u8 {
-    let place = line as usize;
-    if place < 4 { table[place] } else { 0 }
+    table.get(line as usize).copied().unwrap_or(0)
 }
 
 // The set of the new lines of the lines in a set.
 fn moved_set(set: LineSet, table: Table) -> LineSet {
-    let mut moved = 0;
-    for line in 0..4u8 {
-        if set & weight(line) != 0 {
-            moved |= weight(new_line(table, line));
-        }
-    }
-    moved
+    (0..4u8)
+        .filter(|line| set & weight(*line) != 0)
+        .fold(0, |moved, line| moved | weight(new_line(table, line)))
 }

@@ -2,8 +2,6 @@
 #![tactic(auto)]
 
 #[cfg(test)]
-mod apart;
-#[cfg(test)]
 mod drive;
 #[cfg(test)]
 mod kinds;
@@ -13,6 +11,8 @@ mod makings;
 mod model;
 #[cfg(test)]
 mod moves;
+#[cfg(test)]
+mod pile;
 #[cfg(test)]
 mod piles;
 #[cfg(test)]

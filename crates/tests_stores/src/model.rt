@@ -1,6 +1,12 @@
 // A list of gates kept the simple way, with the rules of the calls written out again.
+ghost use Rattle.std.specs.Prelude.{◌≤◌};
+ghost use Rattle.std.specs.Iterator.{IsFinite};
+
 use crate::kinds::*;
-use gates::Gate;
+use fixed_list::FixedList;
+use gates::{Gate, GateRefusal};
+use std::iter;
+use stores::StoreRefusal;
 
 // A record that is no gate of either kind.
 pub const JUNK: Gate = Gate {
@@ -10,11 +16,13 @@ pub const JUNK: Gate = Gate {
     negative: 0xffff_ffff,
 };
 
-// The first `count` gates are the list; the others are nothing.
+// How many gates a list has at most, whatever its capacity.
+const MOST: usize = 64;
+
+// The gates of a list, and how many it can have.
 #[derive(Clone, Copy)]
 pub struct Model {
-    gates: [Gate; 64],
-    pub count: usize,
+    list: FixedList<Gate, MOST>,
     pub capacity: usize,
 }
 
@@ -22,123 +30,96 @@ impl Model {
     // An empty list of so many gates at most.
     pub fn new(capacity: usize) -> Model {
         Model {
-            gates: [JUNK; 64],
-            count: 0,
+            list: FixedList::new(JUNK),
             capacity,
         }
     }
 
-    // The gate at a place; past the end what is no gate.
-    pub fn at(&self, place: usize) -> Gate {
-        if place < self.count && place < 64 {
-            self.gates[place]
-        } else {
-            JUNK
+    // The list of these gates, with the capacity of this one.
+    fn listed<I: Iterator<Item = Gate> + Drop>(&self, gates: I) -> Model
+        requires can { I.can_next gates }
+        requires ends { IsFinite (I.remaining gates) }
+    {
+        let mut list = FixedList::new(JUNK);
+        for gate in gates {
+            let _ = list.push(gate);
+        }
+        Model {
+            list,
+            capacity: self.capacity,
         }
     }
 
+    // The gates, in order.
+    pub fn gates(&self) -> &[Gate] {
+        self.list.as_slice()
+    }
+
+    // How many gates there are.
+    pub fn count(&self) -> usize
+        ensures { result ≤ 64 }
+    {
+        self.list.len()
+    }
+
     // Overwriting a place: 9, then 2.
-    pub fn overwrite<K: TestKind>(&mut self, place: usize, gate: Gate) -> Result<(), u8> {
-        if place >= self.count {
-            return Err(9);
+    pub fn overwrite<K: TestKind>(&mut self, place: usize, gate: Gate) -> Result<(), StoreRefusal> {
+        if place >= self.count() {
+            return Err(StoreRefusal::NoSuchPlace);
         }
         if !K::is_formed(gate) {
-            return Err(2);
+            return Err(StoreRefusal::Gate(GateRefusal::NotWellFormed));
         }
-        self.put(place, gate);
+        self.list.change(place, |old| *old = gate);
         Ok(())
     }
 
     // Inserting before a place: 9, then 2, then 3.
-    pub fn insert<K: TestKind>(&mut self, place: usize, gate: Gate) -> Result<(), u8> {
-        if place > self.count {
-            return Err(9);
+    pub fn insert<K: TestKind>(&mut self, place: usize, gate: Gate) -> Result<(), StoreRefusal> {
+        if place > self.count() {
+            return Err(StoreRefusal::NoSuchPlace);
         }
         if !K::is_formed(gate) {
-            return Err(2);
+            return Err(StoreRefusal::Gate(GateRefusal::NotWellFormed));
         }
-        let count = self.count;
-        if count >= self.capacity {
-            return Err(3);
+        if self.count() >= self.capacity {
+            return Err(StoreRefusal::Full);
         }
-        let before = *self;
-        for at in place..63 {
-            self.gates[at + 1] = before.gates[at];
-        }
-        self.put(place, gate);
-        self.count = count + 1;
+        let gates = self.gates().iter().copied();
+        let behind = self.gates().iter().copied().skip(place);
+        *self = self.listed(gates.take(place).chain(iter::once(gate)).chain(behind));
         Ok(())
     }
 
     // Removing a place: the gate, or 9.
-    pub fn remove(&mut self, place: usize) -> Result<Gate, u8> {
-        let count = self.count;
-        if place >= count {
-            return Err(9);
-        }
-        let before = *self;
-        for at in place..63 {
-            self.gates[at] = before.gates[at + 1];
-        }
-        self.count = count - 1;
-        Ok(before.at(place))
+    pub fn remove(&mut self, place: usize) -> Result<Gate, StoreRefusal> {
+        self.list.remove(place).ok_or(StoreRefusal::NoSuchPlace)
     }
 
     // The list last to first; each gate of either kind is its own inverse.
     pub fn reversed(&self) -> Model {
-        let mut list = Model::new(self.capacity);
-        for at in 0..self.count {
-            list.push(self.at(self.count - 1 - at));
-        }
-        list
+        self.listed(self.gates().iter().rev().copied())
     }
 
     // The list with each gate on the lines that the table gives.
     pub fn moved<K: TestKind>(&self, table: Table) -> Model {
-        let mut list = Model::new(self.capacity);
-        for at in 0..self.count {
-            list.push(K::moved(self.at(at), table));
-        }
-        list
+        self.listed(self.gates().iter().map(|gate| K::moved(*gate, table)))
     }
 
     // The list from one place to before another, which can grow as far as the whole list can.
     pub fn part(&self, from: usize, to: usize) -> Model {
-        let mut list = Model::new(self.capacity);
-        list.extend(self, from, to);
-        let others = self.count.saturating_sub(list.count);
-        list.capacity = self.capacity.saturating_sub(others);
-        list
+        let part = self.listed(self.gates().iter().copied().take(to).skip(from));
+        let others = self.count().saturating_sub(part.count());
+        Model {
+            capacity: self.capacity.saturating_sub(others),
+            ..part
+        }
     }
 
     // The list with another in the place of that part.
     pub fn with_part(&self, from: usize, to: usize, part: &Model) -> Model {
-        let mut list = Model::new(self.capacity);
-        list.extend(self, 0, from);
-        list.extend(part, 0, part.count);
-        list.extend(self, to, self.count);
-        list
-    }
-
-    // Appends a part of another list.
-    fn extend(&mut self, other: &Model, from: usize, to: usize) {
-        for at in from..to {
-            self.push(other.at(at));
-        }
-    }
-
-    // Appends a gate where there is room.
-    fn push(&mut self, gate: Gate) {
-        if self.count < 64 {
-            self.gates[self.count] = gate;
-            self.count += 1;
-        }
-    }
-
-    // Writes a gate to a place.
-    fn put(&mut self, place: usize, gate: Gate) {
-        if place < 64 {
-            self.gates[place] = gate;
-        }
+        let before = self.gates().iter().take(from);
+        let behind = self.gates().iter().skip(to);
+        self.listed(before.chain(part.gates()).chain(behind).copied())
     }
 }

@@ -2,71 +2,59 @@
 use crate::drive::*;
 use crate::model::*;
 use gates::{Gate, Toffoli};
+use samples::gate;
 use std::process::Abort;
 use stores::{GapStore, PlainStore, Renamed, Reversed, Store, Window};
 
 // `t 1 +0`, which is well formed for two lines.
-const GOOD: Gate = Gate {
-    a: 1,
-    b: 0,
-    positive: 1,
-    negative: 0,
-};
+const GOOD: Gate = gate!(t 1 +0);
 
 // `t 1 +1`, whose control is its target.
-const BAD: Gate = Gate {
-    a: 1,
-    b: 0,
-    positive: 2,
-    negative: 0,
-};
+const BAD: Gate = gate!(t 1 +1);
 
 // Inserts where there is no such place, of a gate that is not well formed, and into a full list of so many gates.
 fn check_inserts<S: Store>(rt: &impl Abort, store: &mut S, count: usize) {
+    let beyond = count.saturating_add(1);
     assert_eq!(rt; store.count(), count);
-    assert_eq!(rt;
-        numbered(store.insert(count.saturating_add(1), BAD)),
-        Err(9)
-    );
-    assert_eq!(rt;
-        numbered(store.insert(count.saturating_add(1), GOOD)),
-        Err(9)
-    );
-    assert_eq!(rt; numbered(store.insert(count, BAD)), Err(2));
-    assert_eq!(rt; numbered(store.insert(0, BAD)), Err(2));
-    assert_eq!(rt; numbered(store.insert(count, GOOD)), Err(3));
-    assert_eq!(rt; numbered(store.insert(0, GOOD)), Err(3));
+    for (place, gate, number) in [
+        (beyond, BAD, 9),
+        (beyond, GOOD, 9),
+        (count, BAD, 2),
+        (0, BAD, 2),
+        (count, GOOD, 3),
+        (0, GOOD, 3),
+    ] {
+        assert_eq!(rt; numbered(store.insert(place, gate)), Err(number));
+    }
     assert_eq!(rt; store.count(), count);
 }
 
 // The other calls where there is no such place, and with a gate that is not well formed.
 fn check_others<S: Store>(rt: &impl Abort, store: &mut S, count: usize) {
-    assert_eq!(rt; numbered(store.overwrite(count, BAD)), Err(9));
-    assert_eq!(rt; numbered(store.overwrite(count, GOOD)), Err(9));
-    assert_eq!(rt; numbered(store.overwrite(0, BAD)), Err(2));
+    for (place, gate, number) in [(count, BAD, 9), (count, GOOD, 9), (0, BAD, 2)] {
+        assert_eq!(rt; numbered(store.overwrite(place, gate)), Err(number));
+    }
     assert_eq!(rt; numbered(store.remove(count)), Err(9));
     assert_eq!(rt; numbered(store.read(count)), Err(9));
     assert_eq!(rt; numbered(store.read(usize::MAX)), Err(9));
     assert_eq!(rt; store.count(), count);
 }
 
+// All calls that a full list of so many gates refuses; the store again.
+fn check_refused<S: Store>(rt: &impl Abort, store: S, count: usize) -> S {
+    let mut store = store;
+    check_inserts(rt, &mut store, count);
+    check_others(rt, &mut store, count);
+    store
+}
+
 // A store of two lines with room for three gates, filled, and then each mount on it.
 fn check_mounts<S: Store + Drop>(rt: &impl Abort, store: S) {
-    let mut store = store;
-    for _ in 0..3u32 {
-        assert_eq!(rt; numbered(store.insert(0, GOOD)), Ok(()));
-    }
-    check_inserts(rt, &mut store, 3);
-    check_others(rt, &mut store, 3);
-    let mut reversed = Reversed::new(store);
-    check_inserts(rt, &mut reversed, 3);
-    check_others(rt, &mut reversed, 3);
-    let mut renamed = Renamed::new(reversed, &[1, 0]);
-    check_inserts(rt, &mut renamed, 3);
-    check_others(rt, &mut renamed, 3);
-    let mut window = Window::new(renamed, 1, 2);
-    check_inserts(rt, &mut window, 1);
-    check_others(rt, &mut window, 1);
+    let store = filled(rt, store, GOOD, 3);
+    let reversed = Reversed::new(check_refused(rt, store, 3));
+    let renamed = Renamed::new(check_refused(rt, reversed, 3), &[1, 0]);
+    let window = Window::new(check_refused(rt, renamed, 3), 1, 2);
+    drop(check_refused(rt, window, 1));
 }
 
 #[test]

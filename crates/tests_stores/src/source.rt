@@ -13,7 +13,7 @@ impl Source {
     }
 
     // The next number, below 65,536.
-    pub fn next(&mut self) -> u32 {
+    pub fn draw(&mut self) -> u32 {
         self.state = self
             .state
             .wrapping_mul(1_664_525)
@@ -22,8 +22,8 @@ impl Source {
     }
 
     // The next number, as a place from 0 to one past the place behind the last of `count` gates.
-    pub fn next_place(&mut self, count: usize) -> usize {
+    pub fn draw_place(&mut self, count: usize) -> usize {
         let places = count.min(64) + 2;
-        self.next() as usize % places
+        self.draw() as usize % places
     }
 }

@@ -1,5 +1,6 @@
 -- Three numbers that add up to a total, as keys.
 use Rattle.std.specs.Prelude.{◌≡◌, ℕ, ◌+◌, ◌-◌, ◌<◌, Bool, false, ◌&&◌, List, [], ◌∷◌, ◌==◌, nat_lt, slice_index}
+use Rattle.std.specs.List.{sum}
 use Rattle.search.specs.declared.policy.Shown.{Shown}
 
 -- three numbers, the first below 4,096 and the others below 64, with that total
@@ -18,14 +19,9 @@ triple? total (a ∷ b ∷ []) = false
 triple? total (a ∷ b ∷ c ∷ []) = nat_lt a 4096 && (nat_lt b 64 && (nat_lt c 64 && a + b + c == total))
 triple? total (a ∷ b ∷ c ∷ d ∷ rest) = false
 
--- the sum of the numbers
-abbrev pub sum_of : List ℕ → ℕ
-sum_of [] = 0
-sum_of (x ∷ xs) = x + sum_of xs
-
 -- the note is what the numbers leave of the total
 abbrev pub Leaves : ℕ → List ℕ → ℕ → Type 0
-Leaves total k note = note ≡ total - sum_of k
+Leaves total k note = note ≡ total - sum k
 
 -- what a policy sees: the second number is what is saved
 abbrev pub triple_view : List ℕ → Shown

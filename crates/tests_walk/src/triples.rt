@@ -56,10 +56,7 @@ impl Problem for Triples {
     }
 
     fn is_whole(&self, start: &u16, note: &u16, key: &Key) -> bool {
-        if key.len() < 3 {
-            return false;
-        }
-        true
+        key.len() >= 3
     }
 
     fn candidates(&self, start: &u16, note: &u16, key: &Key) -> u64 {
@@ -71,9 +68,7 @@ impl Problem for Triples {
     }
 
     fn occurs(&self, start: &u16, note: &u16, key: &Key) -> bool {
-        let a = key.at(0);
-        let b = key.at(1);
-        let c = key.at(2);
+        let [a, b, c] = [0, 1, 2].map(|place| key.at(place));
         key.len() == 3 && a < 4096 && b < 64 && c < 64 && a + b + c == self.total
     }
 

@@ -4,6 +4,8 @@
 #[cfg(test)]
 mod allowed;
 #[cfg(test)]
+mod bench;
+#[cfg(test)]
 mod edits;
 #[cfg(test)]
 mod examples;

@@ -1,41 +1,42 @@
-// What becomes of a proposal, as a number.
-use crate::gate_list::*;
+// What becomes of proposals.
+use crate::gate_list::T0;
 use gates::{Gate, GateKind};
-use search::{Earliest, Policy};
+use search::Earliest;
 use std::process::Abort;
 use stores::{PlainStore, Store};
 use workspace::{PositionSet, Proposal, TemplateRefusal, Workspace, check_proposal};
 
-// The number of an outcome: 0 where there is no refusal.
-pub fn number<T: Copy>(outcome: Result<T, TemplateRefusal>) -> u8 {
-    match outcome {
-        Ok(_) => 0,
-        Err(refusal) => refusal.number(),
-    }
-}
+// The lines, the gates and the groups of a proposal, and what has to become of it: no refusal, or one of that number.
+pub type Case<'a> = (u8, &'a [Gate], &'a [PositionSet], Result<(), u8>);
 
-// On a bare shelf the proposal has this outcome, and the shelf then counts it or does not.
-fn expect_on<S: Store + Drop>(rt: &impl Abort, store: S, proposal: &Proposal, expected: u8) {
+// What becomes of the proposal on a bare shelf, and how many entries that then has.
+fn shelved<S: Store + Drop>(store: S, proposal: &Proposal) -> (Result<(), u8>, usize) {
     let mut workspace = Workspace::new(store, Earliest {});
-    assert_eq!(rt; number(workspace.shelve(proposal)), expected);
-    assert_eq!(rt; workspace.entry_count(), usize::from(expected == 0));
+    let outcome = workspace.shelve(proposal);
+    (
+        outcome.map_err(TemplateRefusal::number),
+        workspace.entry_count(),
+    )
 }
 
-// The proposal has this outcome, alone and on the bare shelf of a workspace of one line.
-pub fn expect<'a, K: GateKind>(
-    rt: &impl Abort,
-    lines: u8,
-    gates: &'a [Gate],
-    groups: &'a [PositionSet],
-    expected: u8,
-) {
-    let proposal = Proposal {
-        lines,
-        gates,
-        groups,
-    };
-    assert_eq!(rt; number(check_proposal::<K>(&proposal)), expected);
-    let mut records = [T0; 1];
-    let store: PlainStore<K> = PlainStore::new(&mut records, 1);
-    expect_on(rt, store, &proposal, expected);
+// Each proposal has its outcome, alone and on the bare shelf of a workspace of one line, which then counts it or does not.
+pub fn expect<K: GateKind>(rt: &impl Abort, cases: &[Case]) {
+    for (lines, gates, groups, expected) in cases.iter().copied() {
+        let proposal = Proposal {
+            lines,
+            gates,
+            groups,
+        };
+        let refusal = check_proposal::<K>(&proposal).err();
+        let number = refusal.map(TemplateRefusal::number);
+        assert_eq!(rt; number, expected.err(), "{gates:?} by {groups:?}");
+        let mut records = [T0; 1];
+        let store: PlainStore<K> = PlainStore::new(&mut records, 1);
+        let entries = usize::from(expected.is_ok());
+        assert_eq!(rt;
+            shelved(store, &proposal),
+            (expected, entries),
+            "{gates:?} by {groups:?}"
+        );
+    }
 }
