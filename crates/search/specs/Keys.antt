@@ -1,6 +1,7 @@
 -- Keys, their order by rank, and the list of all keys of some property.
-use Rattle.std.specs.Prelude.{◌≡◌, ℕ, ◌<◌, cond, ◌⊎◌, List, [], ◌∷◌, ◌++◌, length, take, Some, None, Option, nat_lt}
+use Rattle.std.specs.Prelude.{◌≡◌, ℕ, ◌<◌, cond, ◌⊎◌, List, [], ◌∷◌, ◌++◌, length, Some, None, Option, nat_lt}
 use Rattle.std.specs.List.{AllByRecursion}
+use Rattle.fixed_list.specs.Lists.{contents}
 use Rattle.search.specs.declared.key.Key.{Key}
 
 -- how many numbers a key can have
@@ -13,7 +14,7 @@ number_limit = 65536
 
 -- the numbers of a key in memory
 abbrev pub keyed : Key → List ℕ
-keyed key = take key.count key.numbers
+keyed key = contents key.numbers
 
 -- the numbers of a key that there may be
 abbrev pub held : Option Key → Option (List ℕ)

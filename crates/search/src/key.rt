@@ -1,6 +1,8 @@
 // Keys: lists of numbers, by which what is searched for is named and ranked.
-ghost use Rattle.std.specs.Prelude.{◌≡◌, ◌≤◌, List, [], length, slice_index};
+ghost use Rattle.std.specs.Prelude.{◌≡◌, ◌≤◌, [], length, slice_index};
 ghost use Rattle.search.specs.Keys.{keyed, with_number};
+
+use fixed_list::FixedList;
 
 // How many numbers a key can have.
 pub const KEY_SIZE: usize = 24;
@@ -8,8 +10,7 @@ pub const KEY_SIZE: usize = 24;
 // A list of at most `KEY_SIZE` numbers.
 #[derive(Clone, Copy)]
 pub struct Key {
-    numbers: [u16; KEY_SIZE],
-    count: usize,
+    numbers: FixedList<u16, KEY_SIZE>,
 }
 
 impl Key {
@@ -18,42 +19,39 @@ impl Key {
         ensures { keyed result ≡ [] }
     {
         Key {
-            numbers: [0; KEY_SIZE],
-            count: 0,
+            numbers: FixedList::new(0),
         }
+    }
+
+    // The numbers, in order.
+    pub fn as_slice(&self) -> &[u16]
+        ensures is { result.now ≡ keyed self.now }
+        ensures few { length result.now ≤ 24 }
+    {
+        self.numbers.as_slice()
     }
 
     // How many numbers the key has.
     pub fn len(&self) -> usize
         ensures is { result ≡ length (keyed self.now) }
         ensures few { result ≤ 24 }
-        ensures wide { length self.now.numbers ≡ 24 }
     {
-        self.count.min(KEY_SIZE)
+        self.numbers.len()
     }
 
     // The number at that place; 0 where there is none.
     pub fn at(&self, place: usize) -> u16
         ensures { result ≡ slice_index (keyed self.now) place }
     {
-        if place < self.len() {
-            self.numbers[place]
-        } else {
-            0
-        }
+        self.as_slice().get(place).copied().unwrap_or(0)
     }
 
     // The key with one number more; a full key stays as it is.
     pub(crate) fn with(&self, number: u16) -> Key
         ensures { keyed result ≡ with_number (keyed self.now) number }
     {
-        let level = self.len();
-        if level == KEY_SIZE {
-            return *self;
-        }
         let mut longer = *self;
-        longer.numbers[level] = number;
-        longer.count = level + 1;
+        let _ = longer.numbers.push(number);
         longer
     }
 }
