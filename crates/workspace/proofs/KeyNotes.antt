@@ -1,22 +1,24 @@
 -- Notes fit the occurrences whose keys begin with what they were made for, and what comes next is among what they leave.
-use Rattle.std.proofs.Common.{◌≡◌, ℕ, zero, suc, ◌+◌, ◌-◌, ◌<◌, ◌≤◌, min, Bool, true, false, cond, not, ◌&&◌, ◌||◌, eqb, ltb, ◌⊎◌, List, [], ◌∷◌, ◌++◌, length, get_or, take, drop, sym, refl, ap, ◌∙◌, subst, inl, inr, arith}
+use Rattle.std.proofs.Common.{◌≡◌, ℕ, zero, suc, ◌+◌, ◌-◌, ◌<◌, ◌≤◌, min, Bool, true, false, cond, not, ◌&&◌, ◌||◌, eqb, ltb, ◌⊎◌, List, [], ◌∷◌, ◌++◌, length, get_or, drop, sym, refl, ap, ◌∙◌, subst, inl, inr, arith}
 use Rattle.std.proofs.ByRecursion.{All-get_or}
-use Rattle.std.proofs.lemmas.List.{append_assoc, length_push, length-drop, length-map, length-take, get_or_at, get_or-drop, get_or-map, get_or-take, get_or-replicate, drop_all, drop-append-le}
+use Rattle.std.proofs.lemmas.List.{append_assoc, length_push, length-drop, length-map, get_or_at, get_or-drop, get_or-map, get_or-replicate, drop_all, drop-append-le}
 use Rattle.std.proofs.lemmas.Bool.{cases_eq, eq-eqb, ne_eqb, and_from, or_right}
 use Rattle.gates.specs.declared.gate.Gate.{Gate}
+use Rattle.fixed_list.specs.declared.fixed_list.FixedList.{FixedList}
+use Rattle.fixed_list.specs.Lists.{contents}
 use Rattle.gates.specs.Lines.{bit}
 use Rattle.gates.specs.Kinds.{KindMeaning, KindLaws}
 use Rattle.gates.proofs.Masks.{bit_power, bit_not}
 use Rattle.workspace.specs.declared.notes.Note.{Note}
 use Rattle.workspace.specs.declared.posed.Member.{Member}
-use Rattle.workspace.specs.declared.posed.Posed.{Posed}
 use Rattle.workspace.specs.Templates.{TemplateMeaning, size}
 use Rattle.workspace.specs.Turns.{Placed, at_position}
 use Rattle.workspace.specs.TurnTests.{has_number_lem}
 use Rattle.workspace.specs.Conditions.{Condition, Sound}
 use Rattle.workspace.specs.Occurrences.{Occurrence, places, key_of, template_on}
-use Rattle.workspace.specs.Matching.{frame_at, members_of, posed}
+use Rattle.workspace.specs.Matching.{frame_at, posed}
 use Rattle.workspace.specs.Notes.{NoteFits, can_stand, blank_member, gate_of_lem, possible, open_reach}
+use Rattle.workspace.specs.Posing.{placed_of}
 use Rattle.workspace.specs.Prefixes.{Begun}
 use Rattle.workspace.specs.Starts.{IsSet, movable}
 use Rattle.workspace.proofs.Blocking.{next_eligible}
@@ -47,17 +49,15 @@ has_push (x ∷ xs) v d = ap (λ (b : Bool). eqb x d || b) (has_push xs v d) ∙
     swapped false true e = refl
     swapped false false e = refl
 
-module _ (k : KindMeaning) (c : Condition) (o : Occurrence) (note : Note) (is : members_of note.posed.members note.posed.count ≡ pose k c.shelf o) where
+module _ (k : KindMeaning) (c : Condition) (o : Occurrence) (note : Note) (is : placed_of (contents note.posed) ≡ pose k c.shelf o) where
   -- the members are the posed gates
   gate_is : (j : ℕ) → j < size (template_on c.shelf o) → (get_or (pose k c.shelf o) j no_placed).gate ≡ gate_of_lem note j
   gate_is j l =
-      let ms = note.posed.members in
-      let n = note.posed.count in
-      let long : length (take n ms) ≡ size (template_on c.shelf o) = sym (length-map (take n ms) (λ m. at_position m.position m.gate)) ∙ ap length is ∙ pose_long k c.shelf o in
-      let inside : j < length (take n ms) = omega arith in
+      let ms = contents note.posed in
+      let long : length ms ≡ size (template_on c.shelf o) = sym (length-map ms (λ m. at_position m.position m.gate)) ∙ ap length is ∙ pose_long k c.shelf o in
+      let inside : j < length ms = omega arith in
       ap (λ (xs : List Placed). (get_or xs j no_placed).gate) (sym is)
-      ∙ ap (λ (x : Placed). x.gate) (get_or-map (λ m. at_position m.position m.gate) (take n ms) j blank_member no_placed inside)
-      ∙ ap (λ (m : Member). m.gate) (get_or-take n ms j blank_member (omega (arith, length-take n ms)))
+      ∙ ap (λ (x : Placed). x.gate) (get_or-map (λ m. at_position m.position m.gate) ms j blank_member no_placed inside)
 
   module _ (laws : KindLaws k) (sound : Sound k c) (prefix : List ℕ) (b : Begun k c prefix o) where
     -- the image of the j-th gate can stand at the j-th place
@@ -92,7 +92,7 @@ module _ (k : KindMeaning) (c : Condition) (sound : Sound k c) (key prefix : Lis
 
   -- a template that was just posed
   pub posed_fits : (note : Note) (back : Bool) (rotation flips : ℕ) (t : TemplateMeaning) → length key ≡ 6 → t ≡ e → back ≡ eqb (get_or key 3 0) 1 → rotation ≡ get_or key 4 0 → flips ≡ get_or key 5 0
-      → (rotation ≤ size t → members_of note.posed.members note.posed.count ≡ posed k t back rotation flips) → note.reached ≡ open_reach → note.chosen ≡ 1 → NoteFits k e key note o
+      → (rotation ≤ size t → placed_of (contents note.posed) ≡ posed k t back rotation flips) → note.reached ≡ open_reach → note.chosen ≡ 1 → NoteFits k e key note o
   posed_fits note back rotation flips t six same b-is r-is f-is poses reaches chooses =
       let turn = b.rules.turn in
       let b_at : back ≡ o.turn.back = b-is ∙ ap (λ (x : ℕ). eqb x 1) (number_at k c key o b 3 (omega arith)) ∙ direction o.turn.back in
@@ -127,8 +127,8 @@ module _ (k : KindMeaning) (c : Condition) (sound : Sound k c) (key prefix : Lis
           ap (λ (x : ℕ). bit x (distance o (suc j))) (get_or-replicate 7 j 18446744073709551614 0 (omega (arith, b.rules.within, (meets_rules_lem k c key o b sound).size.1))) ∙ later j l
 
   module _ (laws : KindLaws k) (above note : Note) (fits : NoteFits k e prefix above o) (same-posed : note.posed ≡ above.posed) where
-    still_posed : members_of note.posed.members note.posed.count ≡ posed k e o.turn.back o.turn.rotation o.turn.flips
-    still_posed = ap (λ (p : Posed). members_of p.members p.count) same-posed ∙ fits.posed_so
+    still_posed : placed_of (contents note.posed) ≡ posed k e o.turn.back o.turn.rotation o.turn.flips
+    still_posed = ap (λ (p : FixedList Member 8). placed_of (contents p)) same-posed ∙ fits.posed_so
 
     -- one more line is mapped
     pub narrowed_fits : (i : ℕ) → length key ≡ 7 + i → i < e.lines → note.chosen ≡ above.chosen

@@ -17,6 +17,7 @@ pub mod Standing
 pub mod Frames
 pub mod Starting
 pub mod Poses
+pub mod Lists
 pub mod Copies
 pub mod Names
 pub mod TakingOut

@@ -1,8 +1,12 @@
 -- A key that occurs leads to a plan of its occurrence.
-use Rattle.std.proofs.Common.{◌≡◌, ℕ, ◌≤◌, Bool, cond, List, length, get_or, Some, None, Option, sym, ap, ◌∙◌, subst, ap₂, arith}
+use Rattle.std.proofs.Common.{◌≡◌, ℕ, ◌≤◌, Bool, cond, List, length, get_or, Some, None, Ok, Err, Option, Result, sym, refl, ap, ◌∙◌, subst, ap₂, arith}
+use Rattle.std.specs.Result.{result_ok}
+use Rattle.fixed_list.specs.declared.fixed_list.FixedList.{FixedList}
+use Rattle.fixed_list.specs.Lists.{contents}
 use Rattle.gates.specs.Kinds.{KindMeaning}
 use Rattle.workspace.specs.declared.named.Named.{Named}
-use Rattle.workspace.specs.declared.posed.Posed.{Posed}
+use Rattle.workspace.specs.declared.asking.NoGroup.{NoGroup}
+use Rattle.workspace.specs.declared.posed.Member.{Member}
 use Rattle.workspace.specs.Templates.{TemplateMeaning, size}
 use Rattle.workspace.specs.Turns.{Placed, turned_template}
 use Rattle.workspace.specs.Conditions.{Condition, Sound, no_entry}
@@ -11,6 +15,7 @@ use Rattle.workspace.specs.Matching.{OccursIn}
 use Rattle.workspace.specs.Naming.{occurrence_of, named_of, readable, spelled}
 use Rattle.workspace.specs.Occurrences.{Occurrence, OccursAs, key_of, template_on, additions}
 use Rattle.workspace.specs.Plans.{Planned}
+use Rattle.workspace.specs.Posing.{placed_of}
 use Rattle.workspace.proofs.ReadKeys.{spelled_key, readable_key}
 
 module _ (k : KindMeaning) (c : Condition) (key : List ℕ) (sound : Sound k c) (there : OccursIn k c key) (e : TemplateMeaning) (is-template : e ≡ (get_or c.shelf (get_or key 1 0) no_entry).template) where
@@ -54,14 +59,21 @@ module _ (k : KindMeaning) (c : Condition) (key : List ℕ) (sound : Sound k c) 
         ap (λ (t : TemplateMeaning). turned_by k t (occurrence_of named) (additions k c.store.lines c.store.gates t (occurrence_of named))) of_read
         ∙ ap (turned_by k (template_on c.shelf (occurrence_of named)) (occurrence_of named)) rules.extension
 
-    pub extended_none : posed_of None ≡ turned_by k e (occurrence_of named) (additions k c.store.lines c.store.gates e (occurrence_of named)) → ⊥
-    extended_none is =
-        let none : ◌≡◌ {A = Option (List Placed)} None (Some (turned_template k (template_on c.shelf (occurrence_of named)) (occurrence_of named).turn rules.adds)) = is ∙ extends in
-        let z : ◌≡◌ {A = ℕ} 0 1 = cc in omega arith
+    -- there is an extension, and it is the plan's
+    module _ (r : Result (FixedList Member 8) NoGroup) (is : posed_of r ≡ turned_by k e (occurrence_of named) (additions k c.store.lines c.store.gates e (occurrence_of named))) where
+      pub extended_none : result_ok r ≡ None → ⊥
+      extended_none none = let no : ◌≡◌ {A = Option (List Placed)} None (Some _) = sym (posed_none r none) ∙ is ∙ extends in let z : ◌≡◌ {A = ℕ} 0 1 = cc in omega arith
+        where
+          posed_none : (r : Result (FixedList Member 8) NoGroup) → result_ok r ≡ None → posed_of r ≡ None
+          posed_none (Ok p) e = absurd (let z : ◌≡◌ {A = ℕ} 0 1 = cc in omega arith)
+          posed_none (Err refusal) e = refl
 
-    pub planned : (p : Posed) → posed_of (Some p) ≡ turned_by k e (occurrence_of named) (additions k c.store.lines c.store.gates e (occurrence_of named))
-        → Planned k c key record { named = named; extended = p }
-    planned p is = record { named = there.named ∙ ap key_of (sym same); rules = rules; extended = some_is (is ∙ extends) }
-      where
-        some_is : {x y : List Placed} → ◌≡◌ {A = Option (List Placed)} (Some x) (Some y) → x ≡ y
-        some_is q = cc
+      pub planned : (p : FixedList Member 8) → result_ok r ≡ Some p → Planned k c key record { named = named; extended = p }
+      planned p some = record { named = there.named ∙ ap key_of (sym same); rules = rules; extended = some_is (sym (posed_some r some) ∙ is ∙ extends) }
+        where
+          posed_some : (r : Result (FixedList Member 8) NoGroup) → result_ok r ≡ Some p → posed_of r ≡ Some (placed_of (contents p))
+          posed_some (Ok q) e = cc
+          posed_some (Err refusal) e = absurd (let z : ◌≡◌ {A = ℕ} 0 1 = cc in omega arith)
+
+          some_is : {x y : List Placed} → ◌≡◌ {A = Option (List Placed)} (Some x) (Some y) → x ≡ y
+          some_is q = cc

@@ -1,5 +1,6 @@
 -- What a note says of the occurrences whose keys begin with a prefix.
 use Rattle.std.specs.Prelude.{◌≡◌, ℕ, ◌+◌, ◌-◌, ◌<◌, ◌≤◌, Bool, true, not, ◌&&◌, List, ◌∷◌, length, drop, replicate, nat_lt, slice_index, slice_index_or}
+use Rattle.fixed_list.specs.Lists.{contents}
 use Rattle.gates.specs.declared.gate.Gate.{Gate}
 use Rattle.gates.specs.Controls.{gate}
 use Rattle.gates.specs.Lines.{bit, every_below}
@@ -10,14 +11,15 @@ use Rattle.workspace.specs.Templates.{TemplateMeaning}
 use Rattle.workspace.specs.TurnTests.{has_number_lem}
 use Rattle.workspace.specs.Conditions.{Condition}
 use Rattle.workspace.specs.Occurrences.{Occurrence, places, template_on}
-use Rattle.workspace.specs.Matching.{posed, members_of}
+use Rattle.workspace.specs.Matching.{posed}
+use Rattle.workspace.specs.Posing.{placed_of}
 use Rattle.workspace.specs.Prefixes.{Begun}
 use Rattle.workspace.specs.Starts.{at_distance, same_role}
 
 -- the note fits an occurrence of the template e whose key begins with the prefix
 pub record NoteFits (k : KindMeaning) (e : TemplateMeaning) (prefix : List ℕ) (note : Note) (o : Occurrence) : Type 0 where
   -- the template is posed as the occurrence has it
-  pub posed_so : members_of note.posed.members note.posed.count ≡ posed k e o.turn.back o.turn.rotation o.turn.flips
+  pub posed_so : placed_of (contents note.posed) ≡ posed k e o.turn.back o.turn.rotation o.turn.flips
   -- each chosen gate stands at a distance at which it can
   pub reached_so : (j : ℕ) → j < length (places o) → bit (slice_index note.reached j) (slice_index (places o) j - o.first) ≡ true
   -- the distances chosen are 0 and those that the prefix has
@@ -41,7 +43,7 @@ blank_member = record { position = 0; gate = gate 0 0 0 0 }
 
 -- the gate of the j-th member
 abbrev pub gate_of_lem : Note → ℕ → Gate
-gate_of_lem note j = (slice_index_or note.posed.members j blank_member).gate
+gate_of_lem note j = (slice_index_or (contents note.posed) j blank_member).gate
 
 -- each of the first few gates can still stand somewhere, where line x is the image of line i
 abbrev pub possible : KindMeaning → List Gate → Note → ℕ → ℕ → ℕ → Bool

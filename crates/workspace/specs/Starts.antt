@@ -1,6 +1,7 @@
 -- What is known once for a first place: in its frame, which gates block which, and in which role each line is.
-use Rattle.std.specs.Prelude.{◌≡◌, ℕ, ◌<◌, Bool, not, ◌&&◌, ◌||◌, List, length, take, nat_lt, slice_index, slice_index_or}
+use Rattle.std.specs.Prelude.{◌≡◌, ℕ, ◌<◌, Bool, not, ◌&&◌, ◌||◌, List, length, nat_lt, slice_index, slice_index_or}
 use Rattle.std.specs.Bool.{beq}
+use Rattle.fixed_list.specs.Lists.{contents}
 use Rattle.gates.specs.declared.gate.Gate.{Gate}
 use Rattle.gates.specs.Lines.{bit, every_below}
 use Rattle.gates.specs.Controls.{gate}
@@ -46,7 +47,7 @@ same_role k t i w x = beq (bit w.positive x) (bit t.positive i) && (beq (bit w.n
 
 -- the start knows the frame of the first place: its gates, the blockers of each, and the distances at which each line has each role
 pub record Started (k : KindMeaning) (gates : List Gate) (first : ℕ) (start : Start) : Type 0 where
-  pub frame : take start.frame.count start.frame.gates ≡ frame_at gates first
+  pub frame : contents start.frame ≡ frame_at gates first
   pub blockers : (d : ℕ) → d < length (frame_at gates first) → IsSet (slice_index start.blockers d) (blocks k (frame_at gates first) d)
   pub positive : (x : ℕ) → x < 32 → IsSet (slice_index start.positive_at x) (has_role_at k Positive (frame_at gates first) (length (frame_at gates first)) x)
   pub negative : (x : ℕ) → x < 32 → IsSet (slice_index start.negative_at x) (has_role_at k Negative (frame_at gates first) (length (frame_at gates first)) x)

@@ -1,6 +1,7 @@
 -- The tests that decide whether a template meets the rules, in the order in which they are tried.
-use Rattle.std.specs.Prelude.{◌≡◌, ℕ, ◌^◌, Bool, true, false, ◌&&◌, List, [], ◌∷◌, length, Some, None, Decides, Option, count_ones, nat_le, nat_lt}
+use Rattle.std.specs.Prelude.{◌≡◌, ℕ, ◌^◌, Bool, true, false, ◌&&◌, List, length, Some, None, Decides, Option, count_ones, nat_le, nat_lt}
 use Rattle.std.specs.Bool.{beq}
+use Rattle.std.specs.List.{list_all}
 use Rattle.gates.specs.declared.gate.Gate.{Gate}
 use Rattle.gates.specs.declared.gate.GateRefusal.TheVariants.{NotWellFormed}
 use Rattle.gates.specs.Lines.{State, width, bit, every_below}
@@ -12,8 +13,7 @@ use Rattle.workspace.specs.Templates.{TemplateMeaning, size, unselected, LinesRu
 
 -- every element passes
 abbrev pub all_pass : {X : Type 0} → (X → Bool) → List X → Bool
-all_pass test [] = true
-all_pass test (x ∷ xs) = test x && all_pass test xs
+all_pass test xs = list_all test xs
 
 -- one to four lines
 abbrev pub lines_test : TemplateMeaning → Bool

@@ -13,6 +13,7 @@ ghost use Rattle.workspace.specs.TurnTests.{has_number_lem};
 use super::Template;
 use super::notes::Note;
 use super::noting::narrowed_set;
+use super::posed::gate_at;
 use super::start::{Start, eligible};
 use gates::GateKind;
 use search::{Key, candidates};
@@ -78,7 +79,7 @@ fn is_possible<K: GateKind>(start: &Start, note: &Note, few: usize, line: u8, x:
         let set = narrowed_set::<K>(
             start,
             note.reached[place],
-            note.posed.members[place].gate,
+            gate_at(&note.posed, place),
             line,
             x,
         );

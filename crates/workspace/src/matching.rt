@@ -6,10 +6,10 @@ ghost use Rattle.workspace.specs.Starts.{Started};
 
 use super::notes::Note;
 use super::occurs::is_occurrence;
-use super::posed::{Member, Posed};
+use super::posed::Member;
 use super::start::{Start, start_at};
-use super::template::BLANK;
 use super::{Holdings, levels, noting};
+use fixed_list::FixedList;
 use gates::LineSet;
 use search::{Key, Problem, Shown, candidates};
 use stores::Store;
@@ -45,13 +45,7 @@ impl<S: Store> Problem for Holdings<S> {
 
     fn blank(&self) -> Note {
         Note {
-            posed: Posed {
-                members: [Member {
-                    position: 0,
-                    gate: BLANK,
-                }; 8],
-                count: 0,
-            },
+            posed: FixedList::new(Member::BLANK),
             reached: [0; 8],
             chosen: 0,
         }
@@ -134,7 +128,7 @@ impl<S: Store> Problem for Holdings<S> {
     }
 
     fn occurs(&self, start: &Start, note: &Note, key: &Key) -> bool {
-        is_occurrence::<S::Kind>(&start.frame, self.store.lines(), &self.shelf, key)
+        is_occurrence::<S::Kind>(start.frame.as_slice(), self.store.lines(), &self.shelf, key)
     }
 
     fn shown(&self, start: &Start, note: &Note, key: &Key) -> Shown {

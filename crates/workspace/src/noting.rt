@@ -1,14 +1,17 @@
 // Making notes: a template is posed, its lines are mapped one by one, places are chosen one by one.
 ghost use Rattle.std.specs.Prelude.{◌≡◌, ℕ, ◌<◌, ◌≤◌, ◌&&◌, ◌||◌, List, length, ◌==◌, slice_index};
+ghost use Rattle.fixed_list.specs.Lists.{contents};
 ghost use Rattle.gates.specs.declared.gate.Gate.{Gate as GateRecord};
 ghost use Rattle.gates.specs.Lines.{bit};
-ghost use Rattle.workspace.specs.Matching.{frame_at, members_of, posed as posed_list};
+ghost use Rattle.workspace.specs.Matching.{frame_at, posed as posed_list};
 ghost use Rattle.workspace.specs.Notes.{can_stand, gate_of_lem, open_reach};
+ghost use Rattle.workspace.specs.Posing.{placed_of};
 ghost use Rattle.workspace.specs.Proposals.{template_of};
 ghost use Rattle.workspace.specs.Starts.{IsSet, Started};
 
 use super::Template;
 use super::notes::Note;
+use super::posed::gate_at;
 use super::posing::pose;
 use super::start::{Start, role_set};
 use gates::{Gate, GateKind, LineSet};
@@ -25,7 +28,7 @@ pub(crate) fn posed_note<K: GateKind>(
     flips: LineSet,
 ) -> Note
     ensures poses { rotation ≤ length (template_of template.now).gates
-        → members_of result.posed.members result.posed.count ≡ posed_list K.means (template_of template.now) back rotation flips }
+        → placed_of (contents result.posed) ≡ posed_list K.means (template_of template.now) back rotation flips }
     ensures reaches { result.reached ≡ open_reach }
     ensures chooses { result.chosen ≡ 1 }
 {
@@ -55,7 +58,7 @@ pub(crate) fn narrowed<K: GateKind>(start: &Start, above: &Note, line: u8, x: u8
         reached[place] = narrowed_set::<K>(
             start,
             reached[place],
-            above.posed.members[place].gate,
+            gate_at(&above.posed, place),
             line,
             x,
         );

@@ -31,10 +31,10 @@ pub(crate) fn start_at<S: Store>(store: &S, first: usize) -> Start
     let frame = framing::frame_from(store, first);
     Start {
         frame,
-        blockers: blockers::all_blockers::<S::Kind>(&frame),
-        positive_at: role::columns::<S::Kind>(&frame, Role::Positive),
-        negative_at: role::columns::<S::Kind>(&frame, Role::Negative),
-        targets_at: role::columns::<S::Kind>(&frame, Role::Target),
+        blockers: blockers::all_blockers::<S::Kind>(frame.as_slice()),
+        positive_at: role::columns::<S::Kind>(frame.as_slice(), Role::Positive),
+        negative_at: role::columns::<S::Kind>(frame.as_slice(), Role::Negative),
+        targets_at: role::columns::<S::Kind>(frame.as_slice(), Role::Target),
     }
 }
 
@@ -56,7 +56,7 @@ pub(crate) fn role_set<K: GateKind>(start: &Start, gate: Gate, line: u8, x: u8) 
     let positive = agreeing(start.positive_at[at], sets::has_line(gate.positive, line));
     let negative = agreeing(start.negative_at[at], sets::has_line(gate.negative, line));
     let targets = agreeing(start.targets_at[at], sets::has_line(K::targets(gate), line));
-    candidates::numbers_below(start.frame.count) & (positive & (negative & targets))
+    candidates::numbers_below(start.frame.len()) & (positive & (negative & targets))
 }
 
 // Whether all numbers of the set are in the other.
@@ -71,7 +71,7 @@ pub(crate) fn eligible(start: &Start, chosen: u64, after: usize) -> u64
     ensures { (k : KindMeaning) (gates : List Gate) (first : ℕ) → Started k gates first start.now → IsSet result (λ d. nat_lt d (length (frame_at gates first)) && (nat_lt after d && movable k (frame_at gates first) chosen d)) }
 {
     let mut distances = 0;
-    for distance in 0..start.frame.count {
+    for distance in 0..start.frame.len() {
         if after < distance && is_within(start.blockers[distance], chosen) {
             distances = candidates::with_number(distances, distance);
         }

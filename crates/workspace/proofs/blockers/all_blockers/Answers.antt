@@ -11,9 +11,9 @@ loop-distance-preserved g c =
     let f = c.args.frame.now in
     let all = c.loop-distance.all in
     let d = c.loop-distance.distance in
-    let room : d < length all = omega (arith, c.loop-distance.invariant.0, c.loop-distance-test.true, f.few) in (
+    let room : d < length all = omega (arith, c.loop-distance.invariant.0, c.loop-distance-test.true, c.requires) in (
       length-set all d c.blockers_of.result ∙ c.loop-distance.invariant.0,
-      filled_more (λ e s. IsSet s (blocks g.K.GateKind.means f.gates e)) all d c.blockers_of.result room c.loop-distance.invariant.1 c.blockers_of.ensures,
+      filled_more (λ e s. IsSet s (blocks g.K.GateKind.means f e)) all d c.blockers_of.result room c.loop-distance.invariant.1 c.blockers_of.ensures,
     )
 
 pub returns : goal.returns

@@ -9,7 +9,7 @@ loop-before-init g c = below_none _
 
 pub loop-before-preserved : goal.loop-before-preserved
 loop-before-preserved g c =
-    let gates = c.args.frame.now.gates in
+    let gates = c.args.frame.now in
     let P : ℕ → Bool = λ e. not (g.K.GateKind.means.free (at_distance gates e) (at_distance gates c.args.distance)) in
     let d = c.loop-before.before in
     elim c.if-not-interchange.branch [

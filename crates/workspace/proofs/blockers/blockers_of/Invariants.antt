@@ -5,4 +5,4 @@ use Rattle.workspace.proofs.blockers.blockers_of.Given as goal
 
 -- the blockers among the gates so far
 abbrev pub invariant-loop-before : goal.invariant-loop-before
-invariant-loop-before g l = Below (λ e. not (g.K.GateKind.means.free (at_distance l.frame.gates e) (at_distance l.frame.gates l.distance))) l.before l.blockers
+invariant-loop-before g l = Below (λ e. not (g.K.GateKind.means.free (at_distance l.frame e) (at_distance l.frame l.distance))) l.before l.blockers

@@ -27,6 +27,7 @@ loop-place-preserved g c =
       filled_more narrow reached i c.narrowed_set.result room c.loop-place.invariant.2
           (λ gates first started below d l.
           c.narrowed_set.ensures gates first started below d l
+          ∙ ap (λ (t : Gate). bit (get_or reached i 0) d && can_stand k (frame_at gates first) t c.args.line c.args.x d) c.gate_at.ensures
           ∙ ap (λ (s : ℕ). bit s d && can_stand k (frame_at gates first) (gate_of_lem above i) c.args.line c.args.x d) was),
     )
 

@@ -1,4 +1,4 @@
-use Rattle.std.proofs.Common.{ℕ, ◌+◌, Bool, sym, ap, ◌∙◌, subst}
+use Rattle.std.proofs.Common.{ℕ, ◌+◌, Bool, length, sym, ap, ◌∙◌, subst}
 use Rattle.gates.specs.Lines.{bit}
 use Rattle.workspace.specs.Starts.{at_distance, lines_in_lem}
 use Rattle.workspace.proofs.DistanceSets.{Below, below_none, below_more, below_skip, below_all}
@@ -10,7 +10,7 @@ loop-distance-init g c = below_none _
 
 pub loop-distance-preserved : goal.loop-distance-preserved
 loop-distance-preserved g c =
-    let gates = c.args.frame.now.gates in
+    let gates = c.args.frame.now in
     let P : ℕ → Bool = λ d. bit (lines_in_lem g.K.GateKind.means c.args.role (at_distance gates d)) c.args.line in
     let d = c.loop-distance.distance in
     let is = sym (c.has_line.ensures ∙ ap (λ (set : ℕ). bit set c.args.line) c.lines_in.ensures) in
@@ -23,4 +23,4 @@ loop-distance-preserved g c =
 
 pub returns : goal.returns
 returns g c =
-    below_all _ c.loop-distance.distance c.args.frame.now.count c.loop-distance.distances c.loop-distance-test.false c.loop-distance.auto.distance-end c.loop-distance.invariant
+    below_all _ c.loop-distance.distance (length c.args.frame.now) c.loop-distance.distances c.loop-distance-test.false c.loop-distance.auto.distance-end c.loop-distance.invariant

@@ -13,7 +13,7 @@ loop-line-preserved g c =
     let x = c.loop-line.line in
     let room : x < length all = omega (arith, c.loop-line.invariant.0, c.loop-line-test.true) in (
       length-set all x c.column.result ∙ c.loop-line.invariant.0,
-      filled_more (λ y s. IsSet s (has_role_at g.K.GateKind.means c.args.role f.gates f.count y)) all x c.column.result room c.loop-line.invariant.1 c.column.ensures,
+      filled_more (λ y s. IsSet s (has_role_at g.K.GateKind.means c.args.role f (length f) y)) all x c.column.result room c.loop-line.invariant.1 c.column.ensures,
     )
 
 pub returns : goal.returns

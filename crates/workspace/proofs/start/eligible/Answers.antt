@@ -1,5 +1,6 @@
-use Rattle.std.proofs.Common.{ℕ, ◌+◌, Bool, ◌&&◌, ltb, get_or, sym, ◌∙◌, subst}
+use Rattle.std.proofs.Common.{ℕ, ◌+◌, Bool, ◌&&◌, ltb, length, get_or, arith, sym, ◌∙◌, subst}
 use Rattle.std.proofs.lemmas.Bool.{lt-ltb, le-ltb, and_from, and_left, and_right}
+use Rattle.fixed_list.specs.Lists.{contents}
 use Rattle.workspace.specs.Starts.{within}
 use Rattle.workspace.proofs.DistanceSets.{Below, below_none, below_more, below_skip, below_all}
 use Rattle.workspace.proofs.Starting.{eligible_known}
@@ -31,4 +32,4 @@ pub returns : goal.returns
 returns c k gates first started =
     let s = c.args.start.now in
     eligible_known k gates first s started c.args.chosen c.args.after c.loop-distance.distances
-    (below_all _ c.loop-distance.distance s.frame.count c.loop-distance.distances c.loop-distance-test.false c.loop-distance.auto.distance-end c.loop-distance.invariant)
+    (below_all _ c.loop-distance.distance (length (contents s.frame)) c.loop-distance.distances (omega (arith, c.loop-distance-test.false, c.len-distance-end.ensures.is)) (omega (arith, c.loop-distance.auto.distance-end, c.len-distance-end.ensures.is)) c.loop-distance.invariant)

@@ -1,4 +1,4 @@
-use Rattle.std.proofs.Common.{ℕ, get_or, ap, ◌∙◌, arith}
+use Rattle.std.proofs.Common.{ℕ, ltb, get_or, ap, ◌∙◌, arith}
 use mathlib.Core.Bool.{beq}
 use Rattle.gates.specs.Lines.{bit}
 use Rattle.workspace.proofs.Starting.{roles_agree}
@@ -13,7 +13,7 @@ returns g c gates first started l =
     let t = c.args.gate in
     let x = c.args.x in
     roles_agree g.K.GateKind.means gates first s started t c.args.line x c.numbers_below.result c.agreeing-positive.result c.agreeing-negative.result c.agreeing-targets.result l
-    c.numbers_below.ensures
+    (λ i il. c.numbers_below.ensures i il ∙ ap (ltb i) c.len.ensures.is)
     (λ i il. c.agreeing-positive.ensures i il ∙ ap (beq (bit (get_or s.positive_at x 0) i)) c.has_line.ensures)
     (λ i il. c.agreeing-negative.ensures i il ∙ ap (beq (bit (get_or s.negative_at x 0) i)) c.has_line-2.ensures)
     (λ i il. c.agreeing-targets.ensures i il ∙ ap (beq (bit (get_or s.targets_at x 0) i)) (c.has_line-3.ensures ∙ ap (λ (set : ℕ). bit set c.args.line) c.targets.ensures))
