@@ -18,7 +18,6 @@ pub mod Frames
 pub mod Starting
 pub mod Poses
 pub mod Lists
-pub mod Copies
 pub mod Names
 pub mod TakingOut
 pub mod WithoutPlaces

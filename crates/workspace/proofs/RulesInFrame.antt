@@ -24,54 +24,65 @@ use Rattle.workspace.proofs.Testing.{frame_long, rules_are, PlacedRight, places_
 
 -- what is tested of the named occurrence in a frame
 module _ (k : KindMeaning) (n : ℕ) (frame : List Gate) (m : Named) (e : TemplateMeaning) (gates : List Gate) (shelf : List EntryMeaning)
-    (framed : frame ≡ frame_at gates m.first) (listed : m.number < length shelf) (is : template_on shelf (occurrence_of m) ≡ e) where
-  pub tests : rules_test k n gates shelf (occurrence_of m)
-      ≡ (turn_test k n e (occurrence_of m).turn
-      && (places_test (size e) (length frame) (0 ∷ contents m.later)
-      && (equal_test k gates shelf (occurrence_of m) (additions k n gates e (occurrence_of m)) && moves_front k (is_chosen (occurrence_of m)) [] (drop m.first gates))))
+    (framed : frame ≡ frame_at gates m.first) (listed : m.number < length shelf) (is : template_on shelf (occurrence_of m) ≡ e)
+    (many : ℕ) (sized : many ≡ size e) (ds : List ℕ) (far : ds ≡ 0 ∷ contents m.later) where
+  abbrev rules : Bool
+  rules = rules_test k n gates shelf (occurrence_of m)
+
+  -- the tests that are left after those of the turn and the places
+  abbrev rest : Bool
+  rest = equal_test k gates shelf (occurrence_of m) (additions k n gates e (occurrence_of m)) && moves_front k (is_chosen (occurrence_of m)) [] (drop m.first gates)
+
+  tests : rules ≡ (turn_test k n e (occurrence_of m).turn && (places_test many (length frame) ds && rest))
   tests =
       rules_are k n gates shelf e m.first m.number (occurrence_of m).turn (length frame) (contents m.later) listed is (ap length framed ∙ frame_long gates m.first)
+      ∙ ap₂ (λ (z : ℕ) (xs : List ℕ). turn_test k n e (occurrence_of m).turn && (places_test z (length frame) xs && rest)) (sym sized) (sym far)
 
   module _ (turns : true ≡ turn_test k n e (occurrence_of m).turn) where
     pub rotates : m.rotation ≤ size e
     rotates = let lt : m.rotation < size e = ltb-true m.rotation (size e) (and_parts _ _ (sym turns)).0 in omega arith
 
-    pub not_placed : false ≡ places_test (size e) (length frame) (0 ∷ contents m.later) → false ≡ rules_test k n gates shelf (occurrence_of m)
-    not_placed h =
-        ap₂ (λ (a b : Bool). a && (b && (equal_test k gates shelf (occurrence_of m) (additions k n gates e (occurrence_of m)) && moves_front k (is_chosen (occurrence_of m)) [] (drop m.first gates)))) turns h
-        ∙ sym tests
+    pub not_placed : false ≡ places_test many (length frame) ds → false ≡ rules
+    not_placed h = ap₂ (λ (a b : Bool). a && (b && rest)) turns h ∙ sym tests
 
-    module _ (right : true ≡ places_test (size e) (length frame) (0 ∷ contents m.later)) where
-      pub placed_right : PlacedRight m.first (contents m.later)
-      placed_right = places_right m.first (size e) (length frame) (contents m.later) (omega (arith, ap length framed, frame_long gates m.first)) right
+    module _ (right : true ≡ places_test many (length frame) ds) where
+      placed_right : PlacedRight m.first (contents m.later)
+      placed_right =
+          places_right m.first (size e) (length frame) (contents m.later) (omega (arith, ap length framed, frame_long gates m.first))
+          (right ∙ ap₂ (λ (z : ℕ) (xs : List ℕ). places_test z (length frame) xs) sized far)
 
-      -- what is left after the tests of the turn and the places
       left : (x y : Bool) → x ≡ equal_test k gates shelf (occurrence_of m) (additions k n gates e (occurrence_of m)) → y ≡ moves_front k (is_chosen (occurrence_of m)) [] (drop m.first gates)
-          → (x && y) ≡ rules_test k n gates shelf (occurrence_of m)
-      left x y ex ey =
-          ap₂ ◌&&◌ ex ey
-          ∙ ap₂ (λ (a b : Bool). a && (b && (equal_test k gates shelf (occurrence_of m) (additions k n gates e (occurrence_of m)) && moves_front k (is_chosen (occurrence_of m)) [] (drop m.first gates)))) turns right
-          ∙ sym tests
+          → (x && y) ≡ rules
+      left x y ex ey = ap₂ ◌&&◌ ex ey ∙ ap₂ (λ (a b : Bool). a && (b && rest)) turns right ∙ sym tests
 
-      pub not_extended : None ≡ turned_by k e (occurrence_of m) (additions k n gates e (occurrence_of m)) → false ≡ rules_test k n gates shelf (occurrence_of m)
+      pub not_extended : None ≡ turned_by k e (occurrence_of m) (additions k n gates e (occurrence_of m)) → false ≡ rules
       not_extended h = left false _ (equal_none k gates shelf (occurrence_of m) e is (additions k n gates e (occurrence_of m)) h) refl
 
-      -- the gates at the distances
-      abbrev pub chosen : List Gate
-      chosen = at_places frame (0 ∷ contents m.later)
+      -- the gates at the distances, and whether they are the first of an extended template
+      module _ (chosen : List Gate) (held : chosen ≡ at_places frame ds) where
+        pub at_their_places : chosen ≡ at_places gates (places (occurrence_of m))
+        at_their_places = held ∙ ap (at_places frame) far ∙ frame_places gates frame m.first (contents m.later) framed placed_right.near
 
-      pub at_their_places : chosen ≡ at_places gates (places (occurrence_of m))
-      at_their_places = frame_places gates frame m.first (contents m.later) framed placed_right.near
+        module _ (xs : List Placed) (h : Some xs ≡ turned_by k e (occurrence_of m) (additions k n gates e (occurrence_of m))) where
+          abbrev are_first : Bool
+          are_first = same_list same_gate chosen (take (length chosen) (gates_of xs))
 
-      pub standing : (xs : List Placed) → Some xs ≡ turned_by k e (occurrence_of m) (additions k n gates e (occurrence_of m))
-          → (same_list same_gate chosen (take (length chosen) (gates_of xs)) && moves_front k (has_number_lem (0 ∷ contents m.later)) [] frame) ≡ rules_test k n gates shelf (occurrence_of m)
-      standing xs h =
-          let many : length chosen ≡ length (places (occurrence_of m)) = ap length at_their_places ∙ length-map (places (occurrence_of m)) (λ q. get_or gates q (gate 0 0 0 0)) in
-          left (same_list same_gate chosen (take (length chosen) (gates_of xs))) (moves_front k (has_number_lem (0 ∷ contents m.later)) [] frame)
-          (ap₂ (λ (gs : List Gate) (j : ℕ). same_list same_gate gs (take j (gates_of xs))) at_their_places many
-          ∙ equal_some k gates shelf (occurrence_of m) e is (additions k n gates e (occurrence_of m)) xs h)
-          (moves_are k gates frame m.first m.number (occurrence_of m).turn (contents m.later) framed placed_right)
+          abbrev can_move : Bool
+          can_move = moves_front k (has_number_lem ds) [] frame
 
-      -- the places as a set, as far as the frame reaches
-      pub moves_by_set : (set : ℕ) → ((i : ℕ) → i < 32 → bit set i ≡ has_number_lem (0 ∷ contents m.later) i) → moves_front k (bit set) [] frame ≡ moves_front k (has_number_lem (0 ∷ contents m.later)) [] frame
-      moves_by_set set is-set = moves_same k (bit set) (has_number_lem (0 ∷ contents m.later)) [] frame (λ i lt. is-set i (omega (arith, ap length framed, frame_long gates m.first)))
+          stand : (are_first && can_move) ≡ rules
+          stand =
+              let long : length chosen ≡ length (places (occurrence_of m)) = ap length at_their_places ∙ length-map (places (occurrence_of m)) (λ q. get_or gates q (gate 0 0 0 0)) in
+              left are_first can_move
+              (ap₂ (λ (gs : List Gate) (j : ℕ). same_list same_gate gs (take j (gates_of xs))) at_their_places long
+              ∙ equal_some k gates shelf (occurrence_of m) e is (additions k n gates e (occurrence_of m)) xs h)
+              (ap (λ (qs : List ℕ). moves_front k (has_number_lem qs) [] frame) far ∙ moves_are k gates frame m.first m.number (occurrence_of m).turn (contents m.later) framed placed_right)
+
+          pub not_first : false ≡ are_first → false ≡ rules
+          not_first no-first = ap (λ (b : Bool). b && can_move) no-first ∙ stand
+
+          pub first_move : true ≡ are_first → (set : ℕ) → ((i : ℕ) → i < 32 → bit set i ≡ has_number_lem ds i) → moves_front k (bit set) [] frame ≡ rules
+          first_move first set is-set =
+              moves_same k (bit set) (has_number_lem ds) [] frame (λ i lt. is-set i (omega (arith, ap length framed, frame_long gates m.first)))
+              ∙ ap (λ (b : Bool). b && can_move) first
+              ∙ stand

@@ -27,8 +27,8 @@ fn turn_template<K: GateKind>(template: &Template, named: &Named) -> Posed
     posed.map(
         Member::BLANK,
         |member| Member {
-            position: member.position,
             gate: K::renamed(member.gate, table),
+            ..member
         },
     )
 }
@@ -40,8 +40,8 @@ fn stand_beside(turned: &Posed, gates: &[Gate]) -> Posed
     let mut standing = FixedList::new(Member::BLANK);
     for (member, gate) in turned.as_slice().iter().zip(gates) {
         let _ = standing.push(Member {
-            position: member.position,
             gate: *gate,
+            ..*member
         });
     }
     standing
@@ -53,8 +53,8 @@ fn control_member<K: GateKind>(member: Member, groups: &[PositionSet], addition:
 {
     if is_member(groups, addition.group, member.position) {
         return Member {
-            position: member.position,
             gate: K::controlled(member.gate, addition.line, addition.sign),
+            ..member
         };
     }
     member

@@ -38,10 +38,11 @@ fn meets_rules<K: GateKind>(frame: &[Gate], lines: u8, template: &Template, name
         return false;
     }
     let chosen = gates_at(frame, &distances);
-    let Ok(extended) = extend::<K>(chosen.as_slice(), lines, template, named) else {
+    let chosen = chosen.as_slice();
+    let Ok(extended) = extend::<K>(chosen, lines, template, named) else {
         return false;
     };
-    choice::are_first(chosen.as_slice(), &extended)
+    choice::are_first(chosen, &extended)
         && do_move_front::<K>(frame, choice::find_chosen(distances.as_slice()))
 }
 
