@@ -2,7 +2,7 @@ use Rattle.std.proofs.Common.{◌≡◌, true, not, ◌||◌, get_or, take, ap, 
 use Rattle.gates.specs.Lines.{bit}
 use Rattle.workspace.specs.Occurrences.{passes}
 use Rattle.workspace.proofs.Poses.{no_gate}
-use Rattle.workspace.proofs.Passing.{unchosen, left_none, left_more, left_fails, left_all}
+use Rattle.workspace.proofs.Passing.{unchosen, left_none, left_more, left_fails}
 use Rattle.workspace.proofs.moving.do_move_front.Goals as goal
 use Rattle.workspace.proofs.moving.do_move_front.Goals.{else-has_position-via-then-has_position+else-not-does_pass, else-has_position-via-else-has_position}
 
@@ -28,9 +28,3 @@ loop-distance-preserved g c =
       | else-has_position-via-else-has_position w ↦ ap (λ b. not b || passes k (unchosen (bit c.args.chosen) (take d gates)) (get_or gates d no_gate)) w.if-has_position.ensures
     ] in
     left_more k (bit c.args.chosen) gates d c.loop-distance-test.true moves ∙ c.loop-distance.invariant
-
-pub returns : goal.returns
-returns g c =
-    let k = g.K.GateKind.means in
-    let gates = c.args.gates.now in
-    left_all k (bit c.args.chosen) gates c.loop-distance.distance c.loop-distance-test.false ∙ c.loop-distance.invariant ∙ left_none k (bit c.args.chosen) gates

@@ -10,13 +10,8 @@ use Rattle.workspace.specs.Matching.{frame_at}
 use Rattle.workspace.specs.Naming.{occurrence_of}
 use Rattle.workspace.specs.Proposals.{template_of}
 use Rattle.workspace.specs.Shelves.{entries_of}
-use Rattle.workspace.proofs.Spelling.{occurring_listed, decoded_test}
+use Rattle.workspace.proofs.Spelling.{decoded_test}
 use Rattle.workspace.proofs.occurs.is_occurrence.Goals as goal
-
-pub returns-then-number-count : goal.returns-then-number-count
-returns-then-number-count g c gates framed meets few =
-    let shelf = entries_of c.args.shelf.now.entries c.args.shelf.now.count in
-    occurring_listed g.K.GateKind.means c.args.lines gates shelf (keyed c.args.key.now) (omega (arith, c.count.ensures.is, c.from-number.ensures, c.at.ensures, c.if-number-count.true))
 
 pub returns : goal.returns
 returns g c gates framed meets few =
