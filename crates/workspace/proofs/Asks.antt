@@ -1,14 +1,20 @@
 -- What a line asks for, step by step.
-use Rattle.std.proofs.Common.{◌≡◌, ℕ, zero, suc, ◌+◌, ◌-◌, ◌<◌, ◌≤◌, Bool, true, false, cond, ◌||◌, List, [], ◌∷◌, length, get_or, sym, refl, ap, ◌∙◌, arith}
+use Rattle.std.proofs.Common.{◌≡◌, ℕ, zero, suc, ◌+◌, ◌-◌, ◌<◌, ◌≤◌, Bool, true, false, cond, ◌&&◌, ◌||◌, List, [], ◌∷◌, length, get_or, Some, None, Option, refl, ap, ◌∙◌, arith}
+use mathlib.Core.Bool.{beq}
+use denote.Ref.{Bor}
+use Rattle.std.specs.List.{list_any, list_all, find, range_with_len}
+use Rattle.std.specs.Option.{MatchOption}
+use Rattle.std.specs.Slice.{IsItemAt}
+use Rattle.gates.specs.Controls.{reads}
 use Rattle.gates.specs.declared.gate.Sign.{Sign}
 use Rattle.gates.specs.declared.gate.Sign.TheVariants.{Positive, Negative}
 use Rattle.gates.specs.Lines.{bit}
 use Rattle.workspace.specs.declared.posed.Member.{Member}
 use Rattle.workspace.specs.Turns.{in_listed, member}
-use Rattle.workspace.specs.Occurrences.{some_has_lem, lowest}
-use Rattle.workspace.specs.Occurrences.Asked.{control_on, refused}
+use Rattle.workspace.specs.Occurrences.{some_has_lem, fits_group, lowest}
+use Rattle.workspace.specs.Occurrences.Asked.{control_on}
 use Rattle.workspace.specs.Posing.{placed_of}
-use Rattle.workspace.specs.Extensions.{signed}
+use Rattle.workspace.specs.Extensions.{found_as, signed}
 
 -- the listed group of a number from 1 on, as a set
 listed_at : (groups : List ℕ) (i p : ℕ) → i < length groups → bit (get_or groups i 0) p ≡ in_listed groups i p
@@ -21,32 +27,33 @@ listed_past [] i p le = refl
 listed_past (g ∷ groups) zero p le = absurd (let z : ⊥ = omega arith in z)
 listed_past (g ∷ groups) (suc i) p le = listed_past groups i p (omega arith)
 
-pub member_at : (groups : List ℕ) (n p : ℕ) → (n ≡ 0 → ⊥) → n ≤ length groups → bit (get_or groups (n - 1) 0) p ≡ member groups n p
-member_at groups n p some within =
-    let next : suc (n - 1) ≡ n = omega arith in listed_at groups (n - 1) p (omega arith) ∙ ap (λ (m : ℕ). member groups m p) next
-
-pub member_past : (groups : List ℕ) (n p : ℕ) → length groups < n → false ≡ member groups n p
-member_past groups n p past =
-    let next : suc (n - 1) ≡ n = omega arith in listed_past groups (n - 1) p (omega arith) ∙ ap (λ (m : ℕ). member groups m p) next
+-- the position is in the group of a number from 1 on where it is in the listed one that is found
+pub member_is : (groups : List ℕ) (n p : ℕ) (r : Option (Bor ℕ)) (b : Bool) (Q : Bor ℕ → Type 0) → (n ≡ 0 → ⊥) → IsItemAt groups (n - 1) r → ((x : Bor ℕ) → Q x → b ≡ bit x.now p) → MatchOption r (b ≡ false) Q
+    → b ≡ member groups n p
+member_is groups n p None b Q some at each is =
+    let next : suc (n - 1) ≡ n = omega arith in is ∙ listed_past groups (n - 1) p at.3 ∙ ap (λ (m : ℕ). member groups m p) next
+member_is groups n p (Some x) b Q some at each is =
+    let next : suc (n - 1) ≡ n = omega arith in
+    each x is ∙ ap (λ (g : ℕ). bit g p) (at.4 (omega arith) 0) ∙ listed_at groups (n - 1) p at.3.0 ∙ ap (λ (m : ℕ). member groups m p) next
 
 -- some gate of a list has the control
-pub some_or : (sign : Sign) (l : ℕ) (m : Member) (ms : List Member) → some_has_lem sign (placed_of (m ∷ ms)) l ≡ (signed sign m.gate l || some_has_lem sign (placed_of ms) l)
-some_or Positive l m ms = refl
-some_or Negative l m ms = refl
+pub some_is : (sign : Sign) (l : ℕ) (ms : List Member) → list_any (λ (m : Member). signed sign m.gate l) ms ≡ some_has_lem sign (placed_of ms) l
+some_is sign l [] = refl
+some_is Positive l (m ∷ ms) = ap (λ (b : Bool). bit m.gate.positive l || b) (some_is Positive l ms)
+some_is Negative l (m ∷ ms) = ap (λ (b : Bool). bit m.gate.negative l || b) (some_is Negative l ms)
+
+-- a group fits a list of members
+pub fits_is : (groups : List ℕ) (l j : ℕ) (ms : List Member) → list_all (λ (m : Member). beq (member groups j m.position) (reads m.gate l)) ms ≡ fits_group groups (placed_of ms) l j
+fits_is groups l j [] = refl
+fits_is groups l j (m ∷ ms) = ap (λ (b : Bool). beq (member groups j m.position) (reads m.gate l) && b) (fits_is groups l j ms)
 
 -- the lowest group that fits, from number j on
-module _ (fits : ℕ → Bool) (sign : Sign) (j n : ℕ) where
-  open_lowest : j < n → lowest fits sign j (n - j) ≡ cond (fits j) (control_on sign j) (lowest fits sign (j + 1) (n - (j + 1)))
-  open_lowest lt =
-      let some : n - j ≡ suc (n - (j + 1)) = omega arith in
-      let next : suc j ≡ j + 1 = omega arith in
-      ap (lowest fits sign j) some ∙ ap (λ (i : ℕ). cond (fits j) (control_on sign j) (lowest fits sign i (n - (j + 1)))) next
-
-  pub lowest_more : j < n → false ≡ fits j → lowest fits sign (j + 1) (n - (j + 1)) ≡ lowest fits sign j (n - j)
-  lowest_more lt e = ap (λ (b : Bool). cond b (control_on sign j) (lowest fits sign (j + 1) (n - (j + 1)))) e ∙ sym (open_lowest lt)
-
-  pub lowest_found : j < n → true ≡ fits j → control_on sign j ≡ lowest fits sign j (n - j)
-  lowest_found lt e = ap (λ (b : Bool). cond b (control_on sign j) (lowest fits sign (j + 1) (n - (j + 1)))) e ∙ sym (open_lowest lt)
-
-  pub lowest_none : n ≤ j → refused ≡ lowest fits sign j (n - j)
-  lowest_none le = let none : 0 ≡ n - j = omega arith in ap (lowest fits sign j) none
+pub lowest_is : (fits : ℕ → Bool) (sign : Sign) (j few : ℕ) → found_as sign (find fits (range_with_len j few)) ≡ lowest fits sign j few
+lowest_is fits sign j zero = refl
+lowest_is fits sign j (suc few) =
+    at (fits j)
+    ∙ ap (cond (fits j) (control_on sign j)) (lowest_is fits sign (j + 1) few ∙ ap (λ (i : ℕ). lowest fits sign i few) (let e : j + 1 ≡ suc j = omega arith in e))
+  where
+    at : (b : Bool) → found_as sign (cond b (Some j) (find fits (range_with_len (j + 1) few))) ≡ cond b (control_on sign j) (found_as sign (find fits (range_with_len (j + 1) few)))
+    at true = refl
+    at false = refl

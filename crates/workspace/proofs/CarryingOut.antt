@@ -1,8 +1,8 @@
 -- Taking the chosen gates out and putting the inverses of the template's other gates in is the replacement.
-use Rattle.std.proofs.Common.{◌≡◌, ℕ, ◌+◌, ◌-◌, ◌<◌, ◌≤◌, min, not, List, [], ◌∷◌, ◌++◌, map, length, take, drop, sym, refl, ap, ◌∙◌, subst, ap₂, arith}
+use Rattle.std.proofs.Common.{◌≡◌, ℕ, ◌+◌, ◌<◌, ◌≤◌, min, not, List, [], ◌∷◌, ◌++◌, map, length, take, drop, sym, refl, ap, ◌∙◌, subst, ap₂, arith}
 use Rattle.std.specs.List.{AllByRecursion}
 use Rattle.std.proofs.ByRecursion.{All-drop}
-use Rattle.std.proofs.lemmas.List.{take_at, drop_at, length-take-le, length-append, length-map, drop-take, drop-map}
+use Rattle.std.proofs.lemmas.List.{take_at, drop_at, length-take-le, length-append, length-map}
 use Rattle.gates.specs.declared.gate.Gate.{Gate}
 use Rattle.gates.specs.Kinds.{KindMeaning, KindLaws, Formed}
 use Rattle.gates.specs.Cascades.{backward, picked}
@@ -12,7 +12,7 @@ use Rattle.workspace.specs.Templates.{TemplateMeaning, size}
 use Rattle.workspace.specs.Turns.{turned_gates, gates_of}
 use Rattle.workspace.specs.Conditions.{Condition, Sound}
 use Rattle.workspace.specs.Edits.{without, with_inverses}
-use Rattle.workspace.specs.Matching.{members_of}
+use Rattle.workspace.specs.Posing.{placed_of}
 use Rattle.workspace.specs.Occurrences.{Occurrence, OccursAs, places, template_on, is_chosen, after_replacing}
 use Rattle.workspace.proofs.Occurring.{replacing_laws, adds_fit}
 use Rattle.workspace.proofs.Replacing as replacing
@@ -31,18 +31,10 @@ small_places first most bound [] le all = refl
 small_places first most bound (d ∷ ds) le all =
     ap₂ ◌∷◌ (let e : min (first + d) most ≡ first + d = omega (arith, all.0) in e) (small_places first most bound ds le all.1)
 
--- the members from a place on, as a part of their table
-pub members_from : (members : List Member) (n count : ℕ) → n ≤ count → map (λ (m : Member). m.gate) (take (count - n) (drop n members)) ≡ drop n (gates_of (members_of members count))
-members_from members n count le =
-    let f = λ (m : Member). m.gate in
-    let whole : n + (count - n) ≡ count = omega arith in
-    ap (map f) (sym (drop-take n (count - n) members) ∙ ap (λ (i : ℕ). drop n (take i members)) whole)
-    ∙ sym (drop-map f n (take count members))
-    ∙ ap (drop n) (same (take count members))
-  where
-    same : (ms : List Member) → map (λ (m : Member). m.gate) ms ≡ gates_of (map (λ (m : Member). record { position = m.position; gate = m.gate }) ms)
-    same [] = refl
-    same (m ∷ ms) = ap (λ (gs : List Gate). m.gate ∷ gs) (same ms)
+-- the members' gates, without their positions
+pub members_gates : (ms : List Member) → map (λ (m : Member). m.gate) ms ≡ gates_of (placed_of ms)
+members_gates [] = refl
+members_gates (m ∷ ms) = ap (λ (gs : List Gate). m.gate ∷ gs) (members_gates ms)
 
 module _ (k : KindMeaning) (laws : KindLaws k) (c : Condition) (bounded : Bounded c.store) (sound : Sound k c) (o : Occurrence)
     (is : OccursAs k c.store.lines c.store.gates c.shelf o) where

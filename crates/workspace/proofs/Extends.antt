@@ -1,17 +1,25 @@
 -- A turned template extended line by line, and the chosen gates beside it.
-use Rattle.std.proofs.Common.{◌≡◌, ℕ, zero, suc, ◌+◌, ◌-◌, ◌<◌, ◌≤◌, min, ◌⊎◌, List, [], ◌∷◌, map, length, get_or, take, drop, Some, None, Option, sym, refl, ap, ◌∙◌, ap₂, inl, inr, arith}
+use Rattle.std.proofs.Common.{◌≡◌, ℕ, zero, suc, ◌+◌, ◌<◌, ◌≤◌, min, ◌⊎◌, List, [], ◌∷◌, ◌++◌, map, length, get_or, take, drop, Some, None, Ok, Err, Option, Result, sym, refl, ap, ◌∙◌, ap₂, inl, inr, arith}
 use Rattle.std.specs.List.{AllByRecursion}
-use Rattle.std.proofs.lemmas.List.{get_or-take, get_or-drop, get_or-map, length-map}
+use Rattle.std.proofs.lemmas.List.{get_or-take, get_or-drop, get_or-map, length-map, length-take, map_push, take_more}
 use Rattle.std.proofs.lemmas.Bool.{cases_eq}
+use Rattle.std.specs.Result.{IsErr}
+use Rattle.fixed_list.specs.declared.fixed_list.FixedList.{FixedList}
+use Rattle.fixed_list.specs.Lists.{pushed}
 use Rattle.gates.specs.declared.gate.Gate.{Gate}
 use Rattle.gates.specs.declared.gate.Sign.{Sign}
 use Rattle.gates.specs.Kinds.{KindMeaning}
+use Rattle.workspace.specs.declared.asking.Addition.{Addition}
+use Rattle.workspace.specs.declared.asking.NoGroup.{NoGroup}
+use Rattle.workspace.specs.declared.posed.Member.{Member}
 use Rattle.workspace.specs.Turns.{Placed, at_position, on_gate, Added, added, extended}
 use Rattle.workspace.specs.Occurrences.{at_places, beside, Asked, joined_to, gathered}
 use Rattle.workspace.specs.Occurrences.Asked.{nothing, control_on, refused}
 use Rattle.workspace.specs.Matching.{frame_at}
-use Rattle.workspace.specs.Extensions.{controlled_in, extended_by}
-use Rattle.workspace.proofs.Poses.{no_gate, no_member}
+use Rattle.workspace.specs.Extensions.{added_of, answer_of, controlled_in, extended_by, posed_of}
+use Rattle.workspace.specs.Posing.{placed_of}
+use Rattle.workspace.proofs.Lists.{pushed_room}
+use Rattle.workspace.proofs.Poses.{no_gate, no_held, no_member}
 
 -- the chosen gates are those of the frame
 pub frame_places : (gates frame : List Gate) (first : ℕ) (ds : List ℕ) → frame ≡ frame_at gates first → AllByRecursion (λ q. q ≤ first + 31) (map (λ d. first + d) ds)
@@ -25,11 +33,10 @@ frame_places gates frame first ds is near = ap₂ ◌∷◌ (at 0 (omega arith) 
     rest [] h = refl
     rest (d ∷ xs) h = ap₂ ◌∷◌ (at d h.0) (rest xs h.1)
 
--- a distance, by its number
-pub distance_at : (ds : List ℕ) (count n : ℕ) → (n ≡ 0 → ⊥) → n ≤ count → get_or ds (n - 1) 0 ≡ get_or (0 ∷ take count ds) n 0
-distance_at ds count n some le =
-    let next : suc (n - 1) ≡ n = omega arith in
-    sym (get_or-take count ds (n - 1) 0 (omega arith)) ∙ ap (λ (i : ℕ). get_or (0 ∷ take count ds) i 0) next
+-- a refusal holds no gates
+pub posed_refused : (r : Result (FixedList Member 8) NoGroup) → IsErr r → posed_of r ≡ None
+posed_refused (Ok p) is = absurd (let z : ◌≡◌ {A = ℕ} 0 1 = cc in omega arith)
+posed_refused (Err refusal) is = refl
 
 -- the positions beside the chosen gates
 pub beside_long : (xs : List Placed) (gs : List Gate) → length (beside xs gs) ≡ min (length xs) (length gs)
@@ -43,14 +50,30 @@ beside_at (x ∷ xs) [] i lx lg = absurd (let z : ⊥ = omega arith in z)
 beside_at (x ∷ xs) (g ∷ gs) zero lx lg = refl
 beside_at (x ∷ xs) (g ∷ gs) (suc i) lx lg = beside_at xs gs i (omega arith) (omega arith)
 
-pub beside_more : (xs : List Placed) (frame : List Gate) (ds : List ℕ) (i d p : ℕ) (g : Gate) → i < length xs → i < length ds → (get_or xs i no_member).position ≡ p → d ≡ get_or ds i 0
-    → g ≡ get_or frame d no_gate → at_position p g ≡ get_or (beside xs (at_places frame ds)) i no_member
-beside_more xs frame ds i d p g lx ld at far is =
-    let here : get_or (at_places frame ds) i no_gate ≡ get_or frame (get_or ds i 0) no_gate = get_or-map (λ q. get_or frame q no_gate) ds i 0 no_gate ld in
-    ap₂ at_position (sym at) (is ∙ ap (λ (q : ℕ). get_or frame q no_gate) far ∙ sym here)
-    ∙ sym (beside_at xs (at_places frame ds) i lx (omega (arith, length-map ds (λ q. get_or frame q no_gate))))
+-- one gate more
+pub beside_more : (members : List Member) (gs : List Gate) (held : List Member) (i : ℕ) (m : Member) (g : Gate) → i < length members → i < length gs → length members ≤ 8
+    → m ≡ get_or members i no_held → g ≡ get_or gs i no_gate → placed_of held ≡ take i (beside (placed_of members) gs)
+    → placed_of (pushed 8 held record { position = m.position; gate = g }) ≡ take (i + 1) (beside (placed_of members) gs)
+beside_more members gs held i m g lm lg few at is before =
+    let place = λ (x : Member). at_position x.position x.gate in
+    let new : Member = record { position = m.position; gate = g } in
+    let all = beside (placed_of members) gs in
+    let placed-long : length (placed_of members) ≡ length members = length-map members place in
+    let long : length all ≡ min (length members) (length gs) = beside_long (placed_of members) gs ∙ ap (λ (n : ℕ). min n (length gs)) placed-long in
+    let held-long : length held ≡ i = sym (length-map held place) ∙ ap length before ∙ omega (arith, length-take i all) in
+    let here : get_or all i no_member ≡ at_position (get_or members i no_held).position (get_or gs i no_gate) =
+    beside_at (placed_of members) gs i (omega arith) lg ∙ ap (λ (x : Placed). at_position x.position (get_or gs i no_gate)) (get_or-map place members i no_held no_member lm) in
+    ap placed_of (pushed_room 8 held new (omega arith))
+    ∙ map_push place held new
+    ∙ ap₂ (λ (front : List Placed) (x : Placed). front ++ x ∷ []) before (ap₂ (λ (x : Member) (h : Gate). at_position x.position h) at is ∙ sym here)
+    ∙ sym (take_more all i no_member (omega arith))
 
 module _ (k : KindMeaning) (groups : List ℕ) where
+  -- the gates with the control that a line is answered, if any
+  abbrev pub with_answer : Option Addition → List Placed → List Placed
+  with_answer None xs = xs
+  with_answer (Some a) xs = map (controlled_in k groups (added_of a)) xs
+
   -- with one control more on a group
   extended_more : (a : Added) (adds : List Added) (xs : List Placed) → map (controlled_in k groups a) (extended k groups adds xs) ≡ extended k groups (a ∷ adds) xs
   extended_more a adds [] = refl
@@ -68,10 +91,10 @@ module _ (k : KindMeaning) (groups : List ℕ) where
     next_line : (l : ℕ) (a : Asked) → a ≡ ask l → gathered ask (l + 1) ≡ joined_to l a (gathered ask l)
     next_line l a e = let next : l + 1 ≡ suc l = omega arith in ap (gathered ask) next ∙ ap (λ (b : Asked). joined_to l b (gathered ask l)) (sym e)
 
-    pub by_nothing : (l : ℕ) (ys : List Placed) → nothing ≡ ask l → Some ys ≡ extended_by k groups xs (gathered ask l) → Some ys ≡ extended_by k groups xs (gathered ask (l + 1))
+    by_nothing : (l : ℕ) (ys : List Placed) → nothing ≡ ask l → Some ys ≡ extended_by k groups xs (gathered ask l) → Some ys ≡ extended_by k groups xs (gathered ask (l + 1))
     by_nothing l ys e before = before ∙ ap (extended_by k groups xs) (sym (next_line l nothing e))
 
-    pub by_control : (l : ℕ) (ys : List Placed) (sign : Sign) (group : ℕ) → control_on sign group ≡ ask l → Some ys ≡ extended_by k groups xs (gathered ask l)
+    by_control : (l : ℕ) (ys : List Placed) (sign : Sign) (group : ℕ) → control_on sign group ≡ ask l → Some ys ≡ extended_by k groups xs (gathered ask l)
         → Some (map (controlled_in k groups record { line = l; sign = sign; group = group }) ys) ≡ extended_by k groups xs (gathered ask (l + 1))
     by_control l ys sign group e before = at (gathered ask l) before ∙ ap (extended_by k groups xs) (sym (next_line l (control_on sign group) e))
       where
@@ -86,6 +109,18 @@ module _ (k : KindMeaning) (groups : List ℕ) where
             ap (λ (zs : List Placed). Some (map (controlled_in k groups record { line = l; sign = sign; group = group }) zs)) same
             ∙ ap Some (extended_more record { line = l; sign = sign; group = group } adds xs)
 
+    -- one line more, by its answer
+    pub by_answer : (l : ℕ) (ys zs : List Placed) (r : Option Addition) → Ok r ≡ answer_of l (ask l) → zs ≡ with_answer r ys → Some ys ≡ extended_by k groups xs (gathered ask l)
+        → Some zs ≡ extended_by k groups xs (gathered ask (l + 1))
+    by_answer l ys zs r is made before = at (ask l) refl r is made
+      where
+        at : (a : Asked) → a ≡ ask l → (r : Option Addition) → Ok r ≡ answer_of l a → zs ≡ with_answer r ys → Some zs ≡ extended_by k groups xs (gathered ask (l + 1))
+        at nothing e r is made = let none : r ≡ None = cc in ap Some (made ∙ ap (λ (r : Option Addition). with_answer r ys) none) ∙ by_nothing l ys e before
+        at (control_on sign group) e r is made =
+            let some : r ≡ Some record { line = l; sign = sign; group = group } = cc in
+            ap Some (made ∙ ap (λ (r : Option Addition). with_answer r ys) some) ∙ by_control l ys sign group e before
+        at refused e r is made = absurd (let z : ◌≡◌ {A = ℕ} 0 1 = cc in omega arith)
+
     joined_none : (l : ℕ) (a : Asked) → joined_to l a None ≡ None
     joined_none l nothing = refl
     joined_none l (control_on sign group) = refl
@@ -99,5 +134,10 @@ module _ (k : KindMeaning) (groups : List ℕ) where
         at (inl same) ih = ap (λ (b : Asked). joined_to n b (gathered ask n)) (ap ask (sym same) ∙ sym e)
         at (inr other) ih = ap (joined_to n (ask n)) (ih (omega arith)) ∙ joined_none n (ask n)
 
-    pub by_refused : (l n : ℕ) → l < n → refused ≡ ask l → None ≡ extended_by k groups xs (gathered ask n)
-    by_refused l n lt e = sym (ap (extended_by k groups xs) (refused_at l n lt e))
+    pub by_refused : (l n : ℕ) (refusal : NoGroup) → l < n → Err refusal ≡ answer_of l (ask l) → None ≡ extended_by k groups xs (gathered ask n)
+    by_refused l n refusal lt is = sym (ap (extended_by k groups xs) (refused_at l n lt (at (ask l) is)))
+      where
+        at : (a : Asked) → Err refusal ≡ answer_of l a → refused ≡ a
+        at nothing e = absurd (let z : ◌≡◌ {A = ℕ} 0 1 = cc in omega arith)
+        at (control_on sign group) e = absurd (let z : ◌≡◌ {A = ℕ} 0 1 = cc in omega arith)
+        at refused e = refl

@@ -1,20 +1,21 @@
 -- Frames: how one is loaded, and the gates at the places of an occurrence in it.
-use Rattle.std.proofs.Common.{◌≡◌, ℕ, zero, suc, ◌+◌, ◌-◌, ◌<◌, ◌≤◌, min, Bool, cond, ◌⊎◌, List, [], ◌∷◌, ◌++◌, map, length, get_or, take, drop, set, Ok, Err, Result, sym, ap, ◌∙◌, inl, inr, arith}
+use Rattle.std.proofs.Common.{◌≡◌, ℕ, zero, suc, ◌+◌, ◌-◌, ◌<◌, ◌≤◌, min, Bool, cond, ◌⊎◌, List, [], ◌∷◌, map, length, get_or, take, drop, Ok, Err, Result, sym, ap, ◌∙◌, inl, inr, arith}
 use Rattle.std.specs.Result.{result_unwrap_or}
 use Rattle.std.proofs.ByRecursion.{All-get_or}
-use Rattle.std.proofs.lemmas.List.{take_more, take_more_set, take_all, get_or-drop, get_or-take, get_or-map, length-drop, length-take}
+use Rattle.std.proofs.lemmas.List.{take_all, get_or-drop, get_or-take, get_or-map, length-drop, length-take}
 use Rattle.std.proofs.lemmas.Bool.{cases_lt, lt-ltb}
 use Rattle.gates.specs.declared.gate.Gate.{Gate}
 use Rattle.gates.specs.Controls.{gate}
 use Rattle.gates.specs.Kinds.{KindMeaning}
 use Rattle.stores.specs.declared.refusal.StoreRefusal.{StoreRefusal}
 use Rattle.stores.specs.declared.refusal.StoreRefusal.TheVariants.{NoSuchPlace}
+use Rattle.fixed_list.specs.Lists.{pushed}
 use Rattle.stores.specs.Stores.{StoreMeaning, read_outcome, at}
-use Rattle.workspace.specs.declared.frame.Frame.{Frame}
 use Rattle.workspace.specs.Matching.{frame_at}
 use Rattle.workspace.specs.Conditions.{EntryMeaning}
 use Rattle.workspace.specs.Occurrences.{Occurrence, places, Rising, OccursAs}
 use Rattle.workspace.specs.Starts.{at_distance}
+use Rattle.workspace.proofs.Lists.{pushed_next}
 
 -- what is read inside the list is the gate there
 pub read_inside : (m : StoreMeaning) (place : ℕ) (r : Result Gate StoreRefusal) (g : Gate) → place < length m.gates → r ≡ read_outcome m place → g ≡ result_unwrap_or r (gate 0 0 0 0) → g ≡ at m place
@@ -22,32 +23,23 @@ read_inside m place r g lt is got =
     got ∙ ap (λ (x : Result Gate StoreRefusal). result_unwrap_or x (gate 0 0 0 0)) is
     ∙ ap (λ (b : Bool). result_unwrap_or {E = StoreRefusal} (cond b (Ok (at m place)) (Err NoSuchPlace)) (gate 0 0 0 0)) (lt-ltb place (length m.gates) lt)
 
-module _ (gates loaded : List Gate) (first : ℕ) where
+module _ (gates held : List Gate) (first place : ℕ) (from : first ≤ place) (front : held ≡ take (place - first) (drop first gates)) where
   -- one gate more
-  pub loaded_more : (d : ℕ) (g : Gate) → d < length loaded → first + d < length gates → g ≡ get_or gates (first + d) (gate 0 0 0 0)
-      → take d loaded ≡ take d (drop first gates) → take (d + 1) (set loaded d g) ≡ take (d + 1) (drop first gates)
-  loaded_more d g room inside is front =
-      let here : d < length (drop first gates) = omega (arith, length-drop first gates) in
-      take_more_set loaded d g room
-      ∙ ap (λ (x : List Gate). x ++ g ∷ []) front
-      ∙ ap (λ (x : Gate). take d (drop first gates) ++ x ∷ []) (is ∙ sym (get_or-drop first gates d (gate 0 0 0 0)))
-      ∙ sym (take_more (drop first gates) d (gate 0 0 0 0) here)
+  pub loaded_more : (g : Gate) → place < length gates → place < first + 32 → g ≡ get_or gates place (gate 0 0 0 0) → pushed 32 held g ≡ take (place + 1 - first) (drop first gates)
+  loaded_more g inside near is =
+      let at : first + (place - first) ≡ place = omega arith in
+      let next : place - first + 1 ≡ place + 1 - first = omega arith in
+      pushed_next 32 held (drop first gates) (place - first) g (gate 0 0 0 0) (omega (arith, length-drop first gates)) (omega arith)
+      (is ∙ ap (λ (q : ℕ). get_or gates q (gate 0 0 0 0)) (sym at) ∙ sym (get_or-drop first gates (place - first) (gate 0 0 0 0))) front
+      ∙ ap (λ (n : ℕ). take n (drop first gates)) next
 
   -- as many as there are, or as can be reached
-  pub loaded_all : (count d : ℕ) → count ≡ min (length gates - first) 32 → d ≡ count → take d loaded ≡ take d (drop first gates) → take count loaded ≡ frame_at gates first
-  loaded_all count d is end front =
-      ap (λ (i : ℕ). take i loaded) (sym end) ∙ front ∙ ap (λ (i : ℕ). take i (drop first gates)) end ∙ by (cases_lt (length gates - first) 32)
+  pub loaded_all : (reached most : ℕ) → reached ≡ min (length gates) (min (first + 32) most) → length gates ≤ most → (first ≤ reached → place ≤ reached) → reached ≤ place → held ≡ frame_at gates first
+  loaded_all reached most end few to past = front ∙ by (cases_lt (length (drop first gates)) 32)
     where
-      by : (length gates - first < 32) ⊎ (32 ≤ length gates - first) → take count (drop first gates) ≡ take 32 (drop first gates)
-      by (inl few) = take_all count (drop first gates) (omega (arith, length-drop first gates)) ∙ sym (take_all 32 (drop first gates) (omega (arith, length-drop first gates)))
-      by (inr many) = ap (λ (i : ℕ). take i (drop first gates)) (let e : count ≡ 32 = omega arith in e)
-
--- a frame's counted gates, and how many there are
-pub frame_long : (f : Frame) (gates : List Gate) (first : ℕ) → take f.count f.gates ≡ frame_at gates first → f.count ≡ length (frame_at gates first)
-frame_long f gates first is = let long : length (take f.count f.gates) ≡ f.count = omega (arith, length-take f.count f.gates, f.wide, f.few) in sym long ∙ ap length is
-
-pub frame_gate : (f : Frame) (gates : List Gate) (first d : ℕ) → take f.count f.gates ≡ frame_at gates first → d < f.count → at_distance f.gates d ≡ at_distance (frame_at gates first) d
-frame_gate f gates first d is lt = sym (get_or-take f.count f.gates d (gate 0 0 0 0) lt) ∙ ap (λ (x : List Gate). at_distance x d) is
+      by : (length (drop first gates) < 32) ⊎ (32 ≤ length (drop first gates)) → take (place - first) (drop first gates) ≡ take 32 (drop first gates)
+      by (inl short) = take_all (place - first) (drop first gates) (omega (arith, length-drop first gates)) ∙ sym (take_all 32 (drop first gates) (omega arith))
+      by (inr many) = ap (λ (n : ℕ). take n (drop first gates)) (let inside : first ≤ reached = omega (arith, length-drop first gates) in let at-most = to inside in let e : place - first ≡ 32 = omega (arith, length-drop first gates) in e)
 
 -- rising numbers
 rising_from : (r : ℕ) (xs : List ℕ) → Rising r xs → (j : ℕ) → j < length xs → r + j ≤ get_or xs j 0

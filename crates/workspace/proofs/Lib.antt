@@ -17,7 +17,7 @@ pub mod Standing
 pub mod Frames
 pub mod Starting
 pub mod Poses
-pub mod Copies
+pub mod Lists
 pub mod Names
 pub mod TakingOut
 pub mod WithoutPlaces

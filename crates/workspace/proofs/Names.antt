@@ -1,17 +1,35 @@
--- Parts of a key, by their numbers.
-use Rattle.std.proofs.Common.{◌≡◌, ℕ, ◌+◌, ◌-◌, ◌<◌, ◌≤◌, List, length, get_or, take, drop, ap, ◌∙◌, arith}
-use Rattle.std.proofs.lemmas.List.{length-take, length-drop, get_or-take, get_or-drop}
+-- A key read, number by number.
+use Rattle.std.proofs.Common.{◌≡◌, ℕ, ◌+◌, ◌≤◌, Bool, true, false, cond, eqb, ltb, leb, List, map, length, get_or, take, drop, Some, None, Option, sym, refl, ap, ◌∙◌, arith}
+use Rattle.std.proofs.lemmas.List.{length-drop}
+use Rattle.std.proofs.lemmas.Bool.{le-leb, eq-eqb, and_from}
+use Rattle.workspace.specs.TemplateTests.{all_pass}
+use Rattle.workspace.specs.Naming.{readable, spelled}
+use Rattle.workspace.specs.Occurrences.{Occurrence}
 
--- the line map of a key with room for it
-pub map_long : (lines : ℕ) (key : List ℕ) → 6 + lines ≤ length key → length (take lines (drop 6 key)) ≡ lines
-map_long lines key room = omega (arith, length-take lines (drop 6 key), length-drop 6 key)
+module _ (n : ℕ) (xs : List ℕ) (long : 6 ≤ length xs) (few : n ≤ 4) (room : n ≤ length (drop 6 xs)) (sum : get_or xs 2 0 + length (drop 6 xs) ≡ 7 + n) (direction : get_or xs 3 0 ≤ 1) where
+  abbrev pub small : Bool
+  small = all_pass (λ x. ltb x 256) (take n (drop 6 xs))
 
-pub map_at : (lines i : ℕ) (key : List ℕ) → i < lines → get_or (take lines (drop 6 key)) i 0 ≡ get_or key (6 + i) 0
-map_at lines i key lt = get_or-take lines (drop 6 key) i 0 lt ∙ get_or-drop 6 key i 0
+  -- the key can be read where its lines are small
+  can_read : small ≡ true → readable n xs ≡ true
+  can_read are =
+      and_from (leb n 4) _ (le-leb n 4 few)
+      (and_from (leb (6 + n) (length xs)) _ (le-leb (6 + n) (length xs) (omega (arith, length-drop 6 xs)))
+      (and_from (eqb (get_or xs 2 0 + length xs) (13 + n)) _ (eq-eqb _ _ (omega (arith, length-drop 6 xs)))
+      (and_from (leb (get_or xs 3 0) 1) _ (le-leb _ 1 direction) are)))
 
--- what stands behind it
-pub later_long : (lines : ℕ) (key : List ℕ) → length (drop lines (drop 6 key)) ≡ length key - 6 - lines
-later_long lines key = length-drop lines (drop 6 key) ∙ ap (λ (m : ℕ). m - lines) (length-drop 6 key)
-
-pub later_at : (lines i : ℕ) (key : List ℕ) → get_or (drop lines (drop 6 key)) i 0 ≡ get_or key (6 + lines + i) 0
-later_at lines i key = get_or-drop lines (drop 6 key) i 0 ∙ get_or-drop 6 key (lines + i) 0 ∙ ap (λ (n : ℕ). get_or key n 0) (let e : 6 + (lines + i) ≡ 6 + lines + i = omega arith in e)
+  -- what is read is the occurrence that is spelled
+  pub decoded : (first number rotation flips : ℕ) (table later : List ℕ) → first ≡ get_or xs 0 0 → number ≡ get_or xs 1 0 → rotation ≡ get_or xs 4 0 → flips ≡ get_or xs 5 0
+      → ◌≡◌ {A = Option (List ℕ)} (Some table) (cond small (Some (take n (drop 6 xs))) None) → later ≡ drop n (drop 6 xs)
+      → ◌≡◌ {A = Option Occurrence} (Some record { first = first; number = number; turn = record { back = eqb (get_or xs 3 0) 1; rotation = rotation; flips = flips; table = table }; later = map (λ d. first + d) later })
+      (cond (readable n xs) (Some (spelled n xs)) None)
+  decoded first number rotation flips table later p q r f t l = at small refl t
+    where
+      at : (b : Bool) → small ≡ b → ◌≡◌ {A = Option (List ℕ)} (Some table) (cond b (Some (take n (drop 6 xs))) None)
+          → ◌≡◌ {A = Option Occurrence} (Some record { first = first; number = number; turn = record { back = eqb (get_or xs 3 0) 1; rotation = rotation; flips = flips; table = table }; later = map (λ d. first + d) later })
+          (cond (readable n xs) (Some (spelled n xs)) None)
+      at true are h =
+          let s : table ≡ take n (drop 6 xs) = cc in
+          (λ i. Some record { first = p i; number = q i; turn = record { back = eqb (get_or xs 3 0) 1; rotation = r i; flips = f i; table = s i }; later = map (λ d. p i + d) (l i) })
+          ∙ ap (λ (b : Bool). cond b (Some (spelled n xs)) None) (sym (can_read are))
+      at false are h = absurd (let z : ◌≡◌ {A = ℕ} 0 1 = cc in omega arith)

@@ -1,49 +1,32 @@
 -- Chosen gates that move to the front, gate by gate.
 use Rattle.std.proofs.Common.{◌≡◌, ℕ, suc, ◌+◌, ◌<◌, ◌≤◌, Bool, true, false, cond, not, ◌&&◌, ◌||◌, List, [], ◌∷◌, ◌++◌, length, get_or, take, drop, sym, refl, ap, ◌∙◌, ap₂, arith}
 use mathlib.Core.Path.{fun_ext}
-use Rattle.std.proofs.lemmas.List.{length-take, get_or-take, take_more, at_drop_more, at_drop_all}
+use Rattle.std.specs.List.{list_all, enumerate_from}
+use Rattle.std.proofs.lemmas.List.{length-take, take_more, at_drop_more, at_drop_all}
 use Rattle.gates.specs.declared.gate.Gate.{Gate}
 use Rattle.gates.specs.Kinds.{KindMeaning}
 use Rattle.gates.specs.Cascades.{picked}
 use Rattle.workspace.specs.Occurrences.{passes, moves_front}
 use Rattle.workspace.proofs.Poses.{no_gate}
-use Rattle.workspace.proofs.Stepping.{picked_next, from_start}
+use Rattle.workspace.proofs.Stepping.{from_start}
 
 -- the gates at places that are not chosen
 abbrev pub unchosen : (ℕ → Bool) → List Gate → List Gate
 unchosen c gates = picked (λ i. not (c i)) gates
 
-module _ (k : KindMeaning) (c : ℕ → Bool) (gates : List Gate) (n : ℕ) (g : Gate) where
-  -- what the gate has still to pass of the first n
-  abbrev pub ahead : ℕ → Bool
-  ahead e = passes k (picked (λ i. not (c (e + i))) (drop e (take n gates))) g
-
-  pub ahead_none : ahead 0 ≡ passes k (unchosen c (take n gates)) g
-  ahead_none = ap (λ (d : ℕ → Bool). passes k (picked d (take n gates)) g) (from_start (λ i. not (c i)))
-
-  ahead_next : (e : ℕ) → n ≤ length gates → e < n → ahead e ≡ ((c e || k.free (get_or gates e no_gate) g) && ahead (e + 1))
-  ahead_next e le lt =
-      ap (λ (xs : List Gate). passes k xs g) (picked_next (λ i. not (c i)) (take n gates) e no_gate (omega (arith, length-take n gates)))
-      ∙ ap (λ (u : Gate). passes k (cond (not (c e)) (u ∷ rest) rest) g) (get_or-take n gates e no_gate lt)
-      ∙ at (c e)
-    where
-      rest : List Gate
-      rest = picked (λ j. not (c (e + 1 + j))) (drop (e + 1) (take n gates))
-
-      at : (b : Bool)
-          → passes k (cond (not b) (get_or gates e no_gate ∷ picked (λ j. not (c (e + 1 + j))) (drop (e + 1) (take n gates))) (picked (λ j. not (c (e + 1 + j))) (drop (e + 1) (take n gates)))) g
-          ≡ ((b || k.free (get_or gates e no_gate) g) && ahead (e + 1))
-      at true = refl
-      at false = refl
-
-  pub ahead_more : (e : ℕ) → n ≤ length gates → e < n → true ≡ (c e || k.free (get_or gates e no_gate) g) → ahead (e + 1) ≡ ahead e
-  ahead_more e le lt is = ap (λ (b : Bool). b && ahead (e + 1)) is ∙ sym (ahead_next e le lt)
-
-  pub ahead_fails : (e : ℕ) → n ≤ length gates → e < n → false ≡ (c e || k.free (get_or gates e no_gate) g) → false ≡ ahead e
-  ahead_fails e le lt is = ap (λ (b : Bool). b && ahead (e + 1)) is ∙ sym (ahead_next e le lt)
-
-  pub ahead_all : (e : ℕ) → n ≤ e → true ≡ ahead e
-  ahead_all e le = sym (at_drop_all (λ xs. passes k (picked (λ i. not (c (e + i))) xs) g) (take n gates) e (omega (arith, length-take n gates)))
+-- a gate passes the unchosen gates of a list, whose places count from n
+pub passes_is : (k : KindMeaning) (c : ℕ → Bool) (g : Gate) (n : ℕ) (gates : List Gate)
+    → list_all (λ (x : ℕ × Gate). c x.0 || k.free x.1 g) (enumerate_from n gates) ≡ passes k (picked (λ i. not (c (n + i))) gates) g
+passes_is k c g n [] = refl
+passes_is k c g n (u ∷ gates) =
+    ap (λ (b : Bool). (c n || k.free u g) && b) (passes_is k c g (n + 1) gates)
+    ∙ at (c n)
+    ∙ ap₂ (λ (m : ℕ) (d : ℕ → Bool). passes k (cond (not (c m)) (u ∷ picked d gates) (picked d gates)) g)
+    (let e : n ≡ n + 0 = omega arith in e) (fun_ext λ i. ap (λ (m : ℕ). not (c m)) (let e : n + 1 + i ≡ n + suc i = omega arith in e))
+  where
+    at : (b : Bool) → ((b || k.free u g) && passes k (picked (λ i. not (c (n + 1 + i))) gates) g) ≡ passes k (cond (not b) (u ∷ picked (λ i. not (c (n + 1 + i))) gates) (picked (λ i. not (c (n + 1 + i))) gates)) g
+    at true = refl
+    at false = refl
 
 picked_push : (c : ℕ → Bool) (xs : List Gate) (g : Gate) → picked c (xs ++ g ∷ []) ≡ cond (c (length xs)) (picked c xs ++ g ∷ []) (picked c xs)
 picked_push c [] g = refl

@@ -1,17 +1,19 @@
 -- Keys that can be read are those that occurrences can have.
-use Rattle.std.proofs.Common.{◌≡◌, ℕ, suc, ◌+◌, ◌-◌, ◌<◌, ◌≤◌, Bool, true, false, cond, ◌&&◌, eqb, ltb, leb, ◌⊎◌, List, [], ◌∷◌, ◌++◌, map, length, get_or, take, drop, Some, None, sym, refl, ap, ◌∙◌, ap₂, inl, inr, arith}
+use Rattle.std.proofs.Common.{◌≡◌, ℕ, suc, ◌+◌, ◌-◌, ◌<◌, ◌≤◌, Bool, true, false, cond, ◌&&◌, eqb, ltb, leb, ◌⊎◌, List, [], ◌∷◌, ◌++◌, map, length, get_or, take, drop, Some, None, Option, sym, refl, ap, ◌∙◌, ap₂, inl, inr, arith}
 use Rattle.std.specs.List.{AllByRecursion}
+use Rattle.std.specs.Option.{MatchOption}
 use Rattle.std.proofs.lemmas.List.{length-map, length-drop, length-append, take_at, take-append-drop}
 use Rattle.std.proofs.ByRecursion.{All-get_or}
 use Rattle.std.proofs.lemmas.Bool.{lt-ltb, le-leb, leb-true, eqb-true, eq-eqb, and_from, and_parts, cases_eq, ne_eqb}
 use Rattle.gates.specs.declared.gate.Gate.{Gate}
 use Rattle.gates.specs.Kinds.{KindMeaning}
+use Rattle.workspace.specs.declared.named.Named.{Named}
 use Rattle.workspace.specs.Templates.{MeetsRules}
 use Rattle.workspace.specs.TemplateTests.{all_pass}
 use Rattle.workspace.specs.Conditions.{EntryMeaning, no_entry}
 use Rattle.workspace.specs.Occurrences.{Occurrence, key_of, template_on, OccursAs}
 use Rattle.workspace.specs.OccurrenceTests.{same_list, rules_test, named_by, named_test, occurs_test}
-use Rattle.workspace.specs.Naming.{spelled, readable}
+use Rattle.workspace.specs.Naming.{named_of, occurrence_of, spelled, readable}
 use Rattle.workspace.proofs.DecidingOccurrences.{same_self, all_passes, decides_occurrences}
 
 -- the key of an occurrence can be read
@@ -46,7 +48,7 @@ module _ (k : KindMeaning) (n : ℕ) (gates : List Gate) (shelf : List EntryMean
           let same : get_or key 1 0 ≡ s.occurrence.number = ap (λ (ks : List ℕ). get_or ks 1 0) s.named in
           absurd (let z : ⊥ = omega (arith, s.rules.listed) in z)
 
-  pub occurring_readable : AllByRecursion (λ (e : EntryMeaning). MeetsRules k e.template) shelf → (key : List ℕ) (l : ℕ) → (get_or shelf (get_or key 1 0) no_entry).template.lines ≡ l → readable l key ≡ false
+  occurring_readable : AllByRecursion (λ (e : EntryMeaning). MeetsRules k e.template) shelf → (key : List ℕ) (l : ℕ) → (get_or shelf (get_or key 1 0) no_entry).template.lines ≡ l → readable l key ≡ false
       → false ≡ occurs_test k n gates shelf key
   occurring_readable meets key l lines un = at (occurs_test k n gates shelf key) refl
     where
@@ -118,7 +120,7 @@ key_spelled l (p ∷ t ∷ c ∷ b ∷ r ∷ f ∷ rest) h =
     ∙ ap (λ (xs : List ℕ). p ∷ t ∷ c ∷ b ∷ r ∷ f ∷ xs) whole
 
 -- so the test of the key is that of the rules
-pub occurring_named : (k : KindMeaning) (n : ℕ) (gates : List Gate) (shelf : List EntryMeaning) (key : List ℕ) (l : ℕ) → (get_or shelf (get_or key 1 0) no_entry).template.lines ≡ l → readable l key ≡ true
+occurring_named : (k : KindMeaning) (n : ℕ) (gates : List Gate) (shelf : List EntryMeaning) (key : List ℕ) (l : ℕ) → (get_or shelf (get_or key 1 0) no_entry).template.lines ≡ l → readable l key ≡ true
     → rules_test k n gates shelf (spelled l key) ≡ occurs_test k n gates shelf key
 occurring_named k n gates shelf key l is can =
     let h = reading l key can in
@@ -127,16 +129,27 @@ occurring_named k n gates shelf key l is can =
     (ap (same_list eqb key) (key_spelled l key h) ∙ same_self eqb (λ x. eq-eqb x x refl) key))
 
 -- what was read
-pub read_none : (l : ℕ) (key : List ℕ) → None ≡ cond (readable l key) (Some (spelled l key)) None → readable l key ≡ false
+read_none : (l : ℕ) (key : List ℕ) → None ≡ cond (readable l key) (Some (spelled l key)) None → readable l key ≡ false
 read_none l key = at (readable l key)
   where
     at : (b : Bool) → None ≡ cond b (Some (spelled l key)) None → b ≡ false
     at false e = refl
     at true e = absurd (let z : ◌≡◌ {A = ℕ} 0 1 = cc in omega arith)
 
-pub read_some : (l : ℕ) (key : List ℕ) (o : Occurrence) → Some o ≡ cond (readable l key) (Some (spelled l key)) None → (readable l key ≡ true) × (o ≡ spelled l key)
+read_some : (l : ℕ) (key : List ℕ) (o : Occurrence) → Some o ≡ cond (readable l key) (Some (spelled l key)) None → (readable l key ≡ true) × (o ≡ spelled l key)
 read_some l key o = at (readable l key)
   where
     at : (b : Bool) → Some o ≡ cond b (Some (spelled l key)) None → (b ≡ true) × (o ≡ spelled l key)
     at true e = (refl, cc)
     at false e = absurd (let z : ◌≡◌ {A = ℕ} 0 1 = cc in omega arith)
+
+-- a test of what the key is read as, which is of the rules of what is named, is that of the key
+module _ (k : KindMeaning) (n : ℕ) (gates : List Gate) (shelf : List EntryMeaning) (key : List ℕ) (l : ℕ) (lines : (get_or shelf (get_or key 1 0) no_entry).template.lines ≡ l) where
+  pub decoded_test : AllByRecursion (λ (e : EntryMeaning). MeetsRules k e.template) shelf → (r : Option Named) (b : Bool) (Q : Named → Type 0) → named_of r ≡ cond (readable l key) (Some (spelled l key)) None
+      → ((m : Named) → m.first ≡ get_or key 0 0 → m.number ≡ get_or key 1 0 → Q m → b ≡ rules_test k n gates shelf (occurrence_of m)) → MatchOption r (b ≡ false) Q → b ≡ occurs_test k n gates shelf key
+  decoded_test meets None b Q is each none = none ∙ occurring_readable k n gates shelf meets key l lines (read_none l key is)
+  decoded_test meets (Some m) b Q is each called =
+      let read = read_some l key (occurrence_of m) is in
+      each m (ap (λ (o : Occurrence). o.first) read.1) (ap (λ (o : Occurrence). o.number) read.1) called
+      ∙ ap (rules_test k n gates shelf) read.1
+      ∙ occurring_named k n gates shelf key l lines read.0

@@ -11,13 +11,8 @@ use Rattle.gates.specs.Kinds.{KindMeaning}
 use Rattle.gates.specs.Members.{every_of, every_at}
 use Rattle.gates.proofs.Masks.{bit-bit_and}
 use Rattle.gates.specs.ControlSets.{iff_same}
-use Rattle.workspace.specs.declared.frame.Frame.{Frame}
 use Rattle.workspace.specs.declared.role.RoleSets.{RoleSets}
-use Rattle.workspace.specs.Starts.{IsSet, HasRoles, blocks, Known, at_distance, framed, movable, same_role, within}
-
--- a frame has as many gates as it counts
-pub framed_long : (f : Frame) → length (framed f) ≡ f.count
-framed_long f = omega (arith, length-take f.count f.gates, f.few, f.wide)
+use Rattle.workspace.specs.Starts.{IsSet, HasRoles, blocks, Known, at_distance, movable, same_role, within}
 
 -- the gates that block one are those before it with which it does not interchange
 pub before_blocks : (k : KindMeaning) (gates : List Gate) (d : ℕ) (g : Gate) → d < length gates → g ≡ at_distance gates d → (set : ℕ)
@@ -33,18 +28,18 @@ before_blocks k gates d g inside is set known i il = known i il ∙ by (cases_lt
         ∙ ap (λ (x : Gate). ltb i d && not (k.free (at_distance gates i) x)) is
     by (inr ge) = and_left (ltb i (length (take d gates))) _ (le-ltb i _ (omega (arith, long))) ∙ sym (and_left (ltb i d) _ (le-ltb i d ge))
 
-module _ (k : KindMeaning) (f : Frame) (sets : List ℕ) (lines : List RoleSets) (known : Known k (framed f) sets lines) where
+module _ (k : KindMeaning) (frame : List Gate) (count : ℕ) (few : count ≤ 32) (long : length frame ≡ count) (sets : List ℕ) (lines : List RoleSets) (known : Known k frame sets lines) where
   -- all blockers are chosen where each gate before is chosen or interchanges
-  blockers_within : (chosen d : ℕ) → d < length (framed f) → within (get_or sets d 0) chosen ≡ movable k (framed f) chosen d
+  blockers_within : (chosen d : ℕ) → d < length frame → within (get_or sets d 0) chosen ≡ movable k frame chosen d
   blockers_within chosen d dl = iff_same _ _
       (λ h. every_of d _ (λ e l. free e l (every_at 64 (λ e. bit chosen e || not (bit (get_or sets d 0) e)) h e (below e l))))
       (λ h. every_of 64 _ (λ e l. by e l h (cases_lt e d)))
     where
       below : (e : ℕ) → e < d → e < 64
-      below e l = omega (arith, framed_long f, f.few)
+      below e l = omega (arith, long, few)
 
       is_free : ℕ → Bool
-      is_free e = k.free (at_distance (framed f) e) (at_distance (framed f) d)
+      is_free e = k.free (at_distance frame e) (at_distance frame d)
 
       twice : (b : Bool) → not (not b) ≡ b
       twice true = refl
@@ -53,37 +48,37 @@ module _ (k : KindMeaning) (f : Frame) (sets : List ℕ) (lines : List RoleSets)
       before : (e : ℕ) → e < d → not (bit (get_or sets d 0) e) ≡ is_free e
       before e l = ap not (known.blockers d dl e (below e l) ∙ ap (λ (b : Bool). b && not (is_free e)) (lt-ltb e d l)) ∙ twice (is_free e)
 
-      free : (e : ℕ) → e < d → (bit chosen e || not (bit (get_or sets d 0) e)) ≡ true → (bit chosen e || k.free (at_distance (framed f) e) (at_distance (framed f) d)) ≡ true
+      free : (e : ℕ) → e < d → (bit chosen e || not (bit (get_or sets d 0) e)) ≡ true → (bit chosen e || k.free (at_distance frame e) (at_distance frame d)) ≡ true
       free e l h = ap (λ (b : Bool). bit chosen e || b) (sym (before e l)) ∙ h
 
-      by : (e : ℕ) → e < 64 → movable k (framed f) chosen d ≡ true → (e < d) ⊎ (d ≤ e) → (bit chosen e || not (bit (get_or sets d 0) e)) ≡ true
-      by e l h (inl lt) = ap (λ (b : Bool). bit chosen e || b) (before e lt) ∙ every_at d (λ e. bit chosen e || k.free (at_distance (framed f) e) (at_distance (framed f) d)) h e lt
+      by : (e : ℕ) → e < 64 → movable k frame chosen d ≡ true → (e < d) ⊎ (d ≤ e) → (bit chosen e || not (bit (get_or sets d 0) e)) ≡ true
+      by e l h (inl lt) = ap (λ (b : Bool). bit chosen e || b) (before e lt) ∙ every_at d (λ e. bit chosen e || k.free (at_distance frame e) (at_distance frame d)) h e lt
       by e l h (inr ge) = or_right (bit chosen e) _ (ap not (known.blockers d dl e l ∙ and_left (ltb e d) _ (le-ltb e d ge)))
 
-  pub eligible_known : (chosen after set : ℕ) → IsSet set (λ d. ltb d f.count && (ltb after d && within (get_or sets d 0) chosen))
-      → IsSet set (λ d. ltb d (length (framed f)) && (ltb after d && movable k (framed f) chosen d))
-  eligible_known chosen after set known i il = known i il ∙ ap (λ (n : ℕ). ltb i n && (ltb after i && within (get_or sets i 0) chosen)) (sym (framed_long f)) ∙ by (cases_lt i (length (framed f)))
+  pub eligible_known : (chosen after set : ℕ) → IsSet set (λ d. ltb d count && (ltb after d && within (get_or sets d 0) chosen))
+      → IsSet set (λ d. ltb d (length frame) && (ltb after d && movable k frame chosen d))
+  eligible_known chosen after set known i il = known i il ∙ ap (λ (n : ℕ). ltb i n && (ltb after i && within (get_or sets i 0) chosen)) (sym (long)) ∙ by (cases_lt i (length frame))
     where
-      by : (i < length (framed f)) ⊎ (length (framed f) ≤ i)
-          → (ltb i (length (framed f)) && (ltb after i && within (get_or sets i 0) chosen)) ≡ (ltb i (length (framed f)) && (ltb after i && movable k (framed f) chosen i))
-      by (inl lt) = ap (λ (b : Bool). ltb i (length (framed f)) && (ltb after i && b)) (blockers_within chosen i lt)
-      by (inr ge) = and_left (ltb i (length (framed f))) _ (le-ltb i _ ge) ∙ sym (and_left (ltb i (length (framed f))) _ (le-ltb i _ ge))
+      by : (i < length frame) ⊎ (length frame ≤ i)
+          → (ltb i (length frame) && (ltb after i && within (get_or sets i 0) chosen)) ≡ (ltb i (length frame) && (ltb after i && movable k frame chosen i))
+      by (inl lt) = ap (λ (b : Bool). ltb i (length frame) && (ltb after i && b)) (blockers_within chosen i lt)
+      by (inr ge) = and_left (ltb i (length frame)) _ (le-ltb i _ ge) ∙ sym (and_left (ltb i (length frame)) _ (le-ltb i _ ge))
 
   -- the sets that agree with each role, together
-  pub roles_agree : (t : Gate) (line x all positive negative targets : ℕ) (has : RoleSets) → HasRoles k (framed f) x has → IsSet all (λ i. ltb i f.count)
+  pub roles_agree : (t : Gate) (line x all positive negative targets : ℕ) (has : RoleSets) → HasRoles k frame x has → IsSet all (λ i. ltb i count)
       → IsSet positive (λ i. beq (bit has.positive i) (bit t.positive line))
       → IsSet negative (λ i. beq (bit has.negative i) (bit t.negative line))
       → IsSet targets (λ i. beq (bit has.targets i) (bit (k.targets t) line))
-      → IsSet (bit_and all (bit_and positive (bit_and negative targets))) (λ d. ltb d (length (framed f)) && same_role k t line (at_distance (framed f) d) x)
+      → IsSet (bit_and all (bit_and positive (bit_and negative targets))) (λ d. ltb d (length frame) && same_role k t line (at_distance frame d) x)
   roles_agree t line x all positive negative targets has h a p n q i il =
       bit-bit_and all _ i
-      ∙ ap₂ ◌&&◌ (a i il ∙ ap (ltb i) (sym (framed_long f)))
+      ∙ ap₂ ◌&&◌ (a i il ∙ ap (ltb i) (sym (long)))
       (bit-bit_and positive _ i ∙ ap₂ ◌&&◌ (p i il ∙ ap (λ (b : Bool). beq b (bit t.positive line)) (h.positive i il))
       (bit-bit_and negative _ i ∙ ap₂ ◌&&◌ (n i il ∙ ap (λ (b : Bool). beq b (bit t.negative line)) (h.negative i il)) (q i il ∙ ap (λ (b : Bool). beq b (bit (k.targets t) line)) (h.targets i il))))
-      ∙ inside (ltb i (length (framed f))) (bit w.positive x) (bit w.negative x) (bit (k.targets w) x) (bit t.positive line) (bit t.negative line) (bit (k.targets t) line)
+      ∙ inside (ltb i (length frame)) (bit w.positive x) (bit w.negative x) (bit (k.targets w) x) (bit t.positive line) (bit t.negative line) (bit (k.targets t) line)
     where
       w : Gate
-      w = at_distance (framed f) i
+      w = at_distance frame i
 
       inside : (c x y z u v s : Bool) → (c && (beq (c && x) u && (beq (c && y) v && beq (c && z) s))) ≡ (c && (beq x u && (beq y v && beq z s)))
       inside true x y z u v s = refl

@@ -80,12 +80,12 @@ rising_at p q (d ∷ ds) = ap₂ ◌&&◌ (at (cases_lt q d)) (rising_at p d ds)
 pub rising_from : (p : ℕ) (ds : List ℕ) → rising_test (suc p) (map (λ d. p + d) ds) ≡ rising_test 1 ds
 rising_from p ds = ap (λ (q : ℕ). rising_test (suc q) (map (λ d. p + d) ds)) (let e : p ≡ p + 0 = omega arith in e) ∙ rising_at p 0 ds
 
-module _ (k : KindMeaning) (n : ℕ) (gates : List Gate) (shelf : List EntryMeaning) (e : TemplateMeaning) (p t : ℕ) (u : Turn) (count more : ℕ) (ds : List ℕ)
-    (listed : t < length shelf) (is : template_on shelf (occurrence_at p t u ds) ≡ e) (many : length ds ≡ more) (long : count ≡ min 32 (length gates - p)) where
+module _ (k : KindMeaning) (n : ℕ) (gates : List Gate) (shelf : List EntryMeaning) (e : TemplateMeaning) (p t : ℕ) (u : Turn) (count : ℕ) (ds : List ℕ)
+    (listed : t < length shelf) (is : template_on shelf (occurrence_at p t u ds) ≡ e) (long : count ≡ min 32 (length gates - p)) where
   -- the rules, with the tests of the places in one
   pub rules_are : rules_test k n gates shelf (occurrence_at p t u ds)
       ≡ (turn_test k n e u
-      && (places_test (size e) count more ds
+      && (places_test (size e) count (0 ∷ ds)
       && (equal_test k gates shelf (occurrence_at p t u ds) (additions k n gates e (occurrence_at p t u ds)) && moves_front k (is_chosen (occurrence_at p t u ds)) [] (drop p gates))))
   rules_are =
       let o = occurrence_at p t u ds in
@@ -93,7 +93,7 @@ module _ (k : KindMeaning) (n : ℕ) (gates : List Gate) (shelf : List EntryMean
       let inside = all_pass (λ q. ltb q (length gates)) (p ∷ qs) in
       let near = all_pass (λ q. leb q (p + 31)) qs in
       let moves = moves_front k (is_chosen o) [] (drop p gates) in
-      let all : suc (length qs) ≡ suc more = ap suc (length-map ds (λ d. p + d) ∙ many) in
+      let all : suc (length qs) ≡ suc (length ds) = ap suc (length-map ds (λ d. p + d)) in
       let rest = equal_test k gates shelf o (additions k n gates e o) && moves in
       ap (λ (b : Bool). b && (turn_test k n (template_on shelf o) u && (ltb (size (template_on shelf o)) (2 * suc (length qs)) && (leb (suc (length qs)) (size (template_on shelf o))
       && (rising_test (suc p) qs && (inside && (near && (equal_test k gates shelf o (additions k n gates (template_on shelf o) o) && moves)))))))) (lt-ltb t (length shelf) listed)
@@ -120,10 +120,10 @@ pub record PlacedRight (p : ℕ) (ds : List ℕ) : Type 0 where
   pub rising : Rising (suc p) (map (λ d. p + d) ds)
   pub near : AllByRecursion (λ q. q ≤ p + 31) (map (λ d. p + d) ds)
 
-pub places_right : (p m count more : ℕ) (ds : List ℕ) → count ≤ 32 → true ≡ places_test m count more ds → PlacedRight p ds
-places_right p m count more ds few h =
-    let a = and_parts (ltb m (2 * suc more)) _ (sym h) in
-    let b = and_parts (leb (suc more) m) _ a.1 in
+pub places_right : (p m count : ℕ) (ds : List ℕ) → count ≤ 32 → true ≡ places_test m count (0 ∷ ds) → PlacedRight p ds
+places_right p m count ds few h =
+    let a = and_parts (ltb m (2 * suc (length ds))) _ (sym h) in
+    let b = and_parts (leb (suc (length ds)) m) _ a.1 in
     let c = and_parts (rising_test 1 ds) (ltb 0 count && all_pass (λ d. ltb d count) ds) b.1 in
     let d = and_parts (ltb 0 count) (all_pass (λ d. ltb d count) ds) c.1 in
     record { rising = rising_true (suc p) (map (λ d. p + d) ds) (rising_from p ds ∙ c.0); near = near_from p count ds few d.1 }

@@ -1,24 +1,35 @@
 -- Extending a turned template, in memory.
-use Rattle.std.specs.Prelude.{ℕ, Bool, cond, List, Some, None, Option}
+use Rattle.std.specs.Prelude.{ℕ, Bool, cond, List, Some, None, Ok, Err, Option, Result}
+use Rattle.fixed_list.specs.declared.fixed_list.FixedList.{FixedList}
+use Rattle.fixed_list.specs.Lists.{contents}
 use Rattle.gates.specs.declared.gate.Gate.{Gate}
 use Rattle.gates.specs.declared.gate.Sign.{Sign}
 use Rattle.gates.specs.declared.gate.Sign.TheVariants.{Positive, Negative}
 use Rattle.gates.specs.Lines.{bit}
 use Rattle.gates.specs.Kinds.{KindMeaning}
-use Rattle.workspace.specs.declared.asking.Asking.{Asking}
-use Rattle.workspace.specs.declared.asking.Asking.TheVariants.{Nothing, ControlOn, Refused}
-use Rattle.workspace.specs.declared.posed.Posed.{Posed}
+use Rattle.workspace.specs.declared.asking.Addition.{Addition}
+use Rattle.workspace.specs.declared.asking.NoGroup.{NoGroup}
+use Rattle.workspace.specs.declared.posed.Member.{Member}
 use Rattle.workspace.specs.Templates.{TemplateMeaning}
 use Rattle.workspace.specs.Turns.{Placed, on_gate, placed, turned, member, Added, extended}
 use Rattle.workspace.specs.Occurrences.{Occurrence, Asked}
 use Rattle.workspace.specs.Occurrences.Asked.{nothing, control_on, refused}
-use Rattle.workspace.specs.Matching.{members_of}
+use Rattle.workspace.specs.Posing.{placed_of}
 
--- what a line asks for
-abbrev pub asked_of : Asking → Asked
-asked_of Nothing = nothing
-asked_of (ControlOn sign group) = control_on sign group
-asked_of Refused = refused
+-- the control that a value holds
+abbrev pub added_of : Addition → Added
+added_of a = record { line = a.line; sign = a.sign; group = a.group }
+
+-- what a line is answered that asks for this
+abbrev pub answer_of : ℕ → Asked → Result (Option Addition) NoGroup
+answer_of l nothing = Ok None
+answer_of l (control_on sign group) = Ok (Some record { line = l; sign = sign; group = group })
+answer_of l refused = Err record {}
+
+-- what is asked for with a sign, where this group was found or none
+abbrev pub found_as : Sign → Option ℕ → Asked
+found_as sign None = refused
+found_as sign (Some group) = control_on sign group
 
 -- line l is a control of this sign
 abbrev pub signed : Sign → Gate → ℕ → Bool
@@ -39,6 +50,6 @@ abbrev pub turned_by : KindMeaning → TemplateMeaning → Occurrence → Option
 turned_by k e o adds = extended_by k e.groups (turned k o.turn (placed e.gates)) adds
 
 -- the gates with their positions that a value may hold
-abbrev pub posed_of : Option Posed → Option (List Placed)
-posed_of None = None
-posed_of (Some p) = Some (members_of p.members p.count)
+abbrev pub posed_of : Result (FixedList Member 8) NoGroup → Option (List Placed)
+posed_of (Ok list) = Some (placed_of (contents list))
+posed_of (Err refusal) = None

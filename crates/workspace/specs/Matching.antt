@@ -7,9 +7,8 @@ use Rattle.gates.specs.Cascades.{rotated, flipped_or}
 use Rattle.search.specs.declared.policy.Shown.{Shown}
 use Rattle.search.specs.Keys.{key_size, number_limit}
 use Rattle.search.specs.Listing.{FitsKey}
-use Rattle.workspace.specs.declared.posed.Member.{Member}
 use Rattle.workspace.specs.Templates.{TemplateMeaning, size}
-use Rattle.workspace.specs.Turns.{Placed, at_position, on_gate, placed, directed}
+use Rattle.workspace.specs.Turns.{Placed, on_gate, placed, directed}
 use Rattle.workspace.specs.Conditions.{Condition, EntryMeaning, Sound, no_entry}
 use Rattle.workspace.specs.Occurrences.{Occurs}
 use Rattle.workspace.specs.OccurrenceTests.{occurs_test}
@@ -43,7 +42,3 @@ frame_at gates first = take reach (drop first gates)
 -- the gates of a template directed, rotated and flipped, still on its own lines, each with its position
 abbrev pub posed : KindMeaning → TemplateMeaning → Bool → ℕ → ℕ → List Placed
 posed k e back rotation flips = map (on_gate (flipped_or k flips)) (rotated rotation (directed k back (placed e.gates)))
-
--- as many gates with their positions as are counted
-abbrev pub members_of : List Member → ℕ → List Placed
-members_of members count = map (λ m. at_position m.position m.gate) (take count members)

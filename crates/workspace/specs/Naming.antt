@@ -1,16 +1,17 @@
 -- Occurrences that keys name, and how they are held in memory.
 use Rattle.std.specs.Prelude.{ℕ, ◌+◌, Bool, ◌&&◌, List, map, length, take, drop, Some, None, Option, ◌==◌, nat_le, nat_lt, slice_index}
+use Rattle.fixed_list.specs.Lists.{contents}
 use Rattle.workspace.specs.declared.named.Named.{Named}
 use Rattle.workspace.specs.TemplateTests.{all_pass}
 use Rattle.workspace.specs.Occurrences.{Occurrence}
 
--- the occurrence that a value holds: as many lines and distances as it counts
+-- the occurrence that a value holds
 abbrev pub occurrence_of : Named → Occurrence
 occurrence_of m = record {
   first = m.first;
   number = m.number;
-  turn = record { back = m.back; rotation = m.rotation; flips = m.flips; table = take m.lines m.table };
-  later = map (λ d. m.first + d) (take m.count m.later);
+  turn = record { back = m.back; rotation = m.rotation; flips = m.flips; table = contents m.table };
+  later = map (λ d. m.first + d) (contents m.later);
 }
 
 -- the occurrence that a value may hold

@@ -1,5 +1,6 @@
 -- The test of an occurrence, by its key.
 use Rattle.std.specs.Prelude.{ℕ, suc, ◌+◌, ◌*◌, Bool, true, false, ◌&&◌, ltb, leb, List, [], ◌∷◌, map, length, take, drop, Some, None, Decides, Option, ◌==◌, nat_eq, nat_le, nat_lt, slice_index_or}
+use lib.Pointwise.{pointwise}
 use Rattle.gates.specs.declared.gate.Gate.{Gate}
 use Rattle.gates.specs.Kinds.{KindMeaning}
 use Rattle.workspace.specs.Templates.{size}
@@ -15,10 +16,7 @@ same_gate g h = g.a == h.a && (g.b == h.b && (g.positive == h.positive && g.nega
 
 -- the two lists are equal, element by element
 abbrev pub same_list : {X : Type 0} → (X → X → Bool) → List X → List X → Bool
-same_list same [] [] = true
-same_list same [] (y ∷ ys) = false
-same_list same (x ∷ xs) [] = false
-same_list same (x ∷ xs) (y ∷ ys) = same x y && same_list same xs ys
+same_list same xs ys = pointwise same xs ys
 
 -- strictly rising from q on
 abbrev pub rising_test : ℕ → List ℕ → Bool

@@ -6,7 +6,6 @@ use Rattle.workspace.specs.declared.entry.Entry.{Entry}
 use Rattle.workspace.specs.declared.shelf.Shelf.{Shelf}
 use Rattle.workspace.specs.declared.template.Template.{Template}
 use Rattle.workspace.specs.Proposals.{template_of}
-use Rattle.workspace.specs.Templates.{TemplateMeaning}
 use Rattle.workspace.specs.Conditions.{EntryMeaning, entry, counted_once, no_entry}
 
 -- the entry that a value holds
@@ -16,10 +15,6 @@ entry_of e = entry (template_of e.template) e.replacements
 -- the entries of the shelf, in order
 abbrev pub entries_of : Shelf → List EntryMeaning
 entries_of s = map entry_of (contents s.entries)
-
--- the template of the entry of that number
-abbrev pub listed_template : Shelf → ℕ → TemplateMeaning
-listed_template s number = (slice_index_or (entries_of s) number no_entry).template
 
 -- the template, if there is one, is that of the entry of this number
 abbrev pub IsNumbered : List EntryMeaning → ℕ → Option (Bor Template) → Type 0

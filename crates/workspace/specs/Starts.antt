@@ -1,11 +1,10 @@
 -- What is known of a frame: which gates block which, and in which role each line is.
-use Rattle.std.specs.Prelude.{◌≡◌, ℕ, ◌<◌, Bool, not, ◌&&◌, ◌||◌, List, length, take, nat_lt, slice_index, slice_index_or}
+use Rattle.std.specs.Prelude.{◌≡◌, ℕ, ◌<◌, Bool, not, ◌&&◌, ◌||◌, List, length, nat_lt, slice_index, slice_index_or}
 use Rattle.std.specs.Bool.{beq}
 use Rattle.gates.specs.declared.gate.Gate.{Gate}
 use Rattle.gates.specs.Lines.{bit, every_below}
 use Rattle.gates.specs.Controls.{gate}
 use Rattle.gates.specs.Kinds.{KindMeaning}
-use Rattle.workspace.specs.declared.frame.Frame.{Frame}
 use Rattle.workspace.specs.declared.role.RoleSets.{RoleSets}
 
 -- the numbers below 64 in the set are those of which P holds
@@ -19,10 +18,6 @@ Answering answers count p = (i : ℕ) → i < count → (b : Bool) → answers i
 -- all numbers below 64 in the set are in the other
 abbrev pub within : ℕ → ℕ → Bool
 within set other = every_below 64 (λ i. bit other i || not (bit set i))
-
--- the gates of a frame
-abbrev pub framed : Frame → List Gate
-framed frame = take frame.count frame.gates
 
 -- the gate at this distance from the first
 abbrev pub at_distance : List Gate → ℕ → Gate

@@ -1,5 +1,6 @@
 -- The test of a turn.
-use Rattle.std.specs.Prelude.{ℕ, ◌^◌, Bool, true, false, not, ◌&&◌, ◌||◌, ltb, List, [], ◌∷◌, length, is_some, Decides, ◌==◌, nat_le, nat_lt}
+use Rattle.std.specs.Prelude.{ℕ, ◌^◌, Bool, true, not, ◌&&◌, ltb, List, [], ◌∷◌, length, is_some, Decides, ◌==◌, nat_le, nat_lt}
+use Rattle.std.specs.List.{list_any}
 use Rattle.gates.specs.Lines.{width}
 use Rattle.gates.specs.Kinds.{KindMeaning}
 use Rattle.workspace.specs.Templates.{TemplateMeaning, size}
@@ -8,8 +9,7 @@ use Rattle.workspace.specs.Turns.{Turn, IsTurn, directed, placed}
 
 -- the number is in the list
 abbrev pub has_number_lem : List ℕ → ℕ → Bool
-has_number_lem [] n = false
-has_number_lem (x ∷ xs) n = x == n || has_number_lem xs n
+has_number_lem xs n = list_any (λ x. x == n) xs
 
 -- no number is in the list twice
 abbrev pub distinct : List ℕ → Bool

@@ -1,36 +1,26 @@
 // What lines outside the map ask for: controls for the gates of a group.
 ghost use Rattle.std.specs.Prelude.{◌≡◌, suc, length};
-ghost use Rattle.std.specs.Bool.{beq};
-ghost use Rattle.gates.specs.Controls.{reads};
-ghost use Rattle.workspace.specs.Extensions.{asked_of, signed};
+ghost use Rattle.gates.specs.declared.gate.Sign.{Sign as SignMeaning};
+ghost use Rattle.workspace.specs.Extensions.{answer_of, found_as, signed};
 ghost use Rattle.workspace.specs.Occurrences.{asks, fits_group, lowest, some_has_lem};
 ghost use Rattle.workspace.specs.Posing.{placed_of};
 ghost use Rattle.workspace.specs.Turns.{member};
-ghost use Rattle.workspace.specs.TurnTests.{has_number_lem};
 
 use super::posed::Member;
 use super::{PositionSet, positions};
 use gates::{Gate, Sign, sets};
 
-// What a line asks for: nothing, a control of a sign for a group, or what no group can give.
+// A control that is added: its line, its sign, and the number of the group whose gates get it.
 #[derive(Clone, Copy)]
-pub(crate) enum Asking {
-    Nothing,
-    ControlOn(Sign, usize),
-    Refused,
+pub(crate) struct Addition {
+    pub(crate) line: u8,
+    pub(crate) sign: Sign,
+    pub(crate) group: usize,
 }
 
-// Whether the line is in the table.
-pub(crate) fn has_number(table: &[u8], line: u8) -> bool
-    ensures { result ≡ has_number_lem table.now line }
-{
-    for entry in table {
-        if *entry == line {
-            return true;
-        }
-    }
-    false
-}
+// What a line asks for, no group can give.
+#[derive(Clone, Copy)]
+pub(crate) struct NoGroup {}
 
 // Whether the position is in the group of that number: group 0 is the whole template, the listed groups count from 1.
 pub(crate) fn is_member(groups: &[PositionSet], number: usize, position: usize) -> bool
@@ -39,10 +29,8 @@ pub(crate) fn is_member(groups: &[PositionSet], number: usize, position: usize) 
     if number == 0 {
         return true;
     }
-    if number > groups.len() {
-        return false;
-    }
-    positions::has_position(groups[number - 1], position)
+    let listed = groups.get(number - 1);
+    listed.is_some_and(|group| positions::has_position(*group, position))
 }
 
 // Whether the line is a control of this sign.
@@ -59,66 +47,47 @@ fn is_signed(gate: Gate, sign: Sign, line: u8) -> bool
 fn some_has(chosen: &[Member], sign: Sign, line: u8) -> bool
     ensures { result ≡ some_has_lem sign (placed_of chosen.now) line }
 {
-    for member in chosen {
-        if is_signed(member.gate, sign, line) {
-            return true;
-        }
-    }
-    false
-}
-
-// Whether the gate is in the group exactly where it has the line as a control.
-fn does_agree(groups: &[PositionSet], number: usize, chosen: Member, line: u8) -> bool
-    ensures { result ≡ beq (member groups.now number chosen.position) (reads chosen.gate line) }
-{
-    if is_member(groups, number, chosen.position) {
-        chosen.gate.has_control(line)
-    } else {
-        !chosen.gate.has_control(line)
-    }
+    chosen
+        .iter()
+        .any(|chosen| is_signed(chosen.gate, sign, line))
 }
 
 // Whether the gates of the group are exactly those that have the line as a control.
 fn does_group_fit(groups: &[PositionSet], chosen: &[Member], line: u8, number: usize) -> bool
     ensures { result ≡ fits_group groups.now (placed_of chosen.now) line number }
 {
-    for member in chosen {
-        if !does_agree(groups, number, *member, line) {
-            return false;
-        }
-    }
-    true
+    chosen.iter().all(|chosen| is_member(groups, number, chosen.position)
+        == chosen.gate.has_control(line))
 }
 
-// A control for the lowest group that fits.
-fn find_group(groups: &[PositionSet], chosen: &[Member], line: u8, sign: Sign) -> Asking
-    ensures { asked_of result ≡ lowest (fits_group groups.now (placed_of chosen.now) line) sign 0 (suc (length groups.now)) }
+// The lowest group that fits.
+fn find_group(groups: &[PositionSet], chosen: &[Member], line: u8) -> Option<usize>
+    ensures { (sign : SignMeaning) → found_as sign result ≡ lowest (fits_group groups.now (placed_of chosen.now) line) sign 0 (suc (length groups.now)) }
 {
-    for number in 0..groups.len() + 1 {
-        if does_group_fit(groups, chosen, line, number) {
-            return Asking::ControlOn(sign, number);
-        }
-    }
-    Asking::Refused
+    (0..groups.len() + 1).find(|number| does_group_fit(groups, chosen, line, *number))
 }
 
 // What the line asks for: nothing where it is in the map or no control, else a control of the sign on which all agree.
-pub(crate) fn ask(table: &[u8], groups: &[PositionSet], chosen: &[Member], line: u8) -> Asking
-    ensures { asked_of result ≡ asks table.now groups.now (placed_of chosen.now) line }
+pub(crate) fn ask(
+    table: &[u8],
+    groups: &[PositionSet],
+    chosen: &[Member],
+    line: u8,
+) -> Result<Option<Addition>, NoGroup>
+    ensures { result ≡ answer_of line (asks table.now groups.now (placed_of chosen.now) line) }
 {
-    if has_number(table, line) {
-        return Asking::Nothing;
+    if table.contains(&line) {
+        return Ok(None);
     }
     let plus = some_has(chosen, Sign::Positive, line);
     let minus = some_has(chosen, Sign::Negative, line);
     if plus && minus {
-        return Asking::Refused;
+        return Err(NoGroup {});
     }
-    if plus {
-        return find_group(groups, chosen, line, Sign::Positive);
+    if !plus && !minus {
+        return Ok(None);
     }
-    if minus {
-        return find_group(groups, chosen, line, Sign::Negative);
-    }
-    Asking::Nothing
+    let sign = if plus { Sign::Positive } else { Sign::Negative };
+    let group = find_group(groups, chosen, line).ok_or(NoGroup {})?;
+    Ok(Some(Addition { line, sign, group }))
 }

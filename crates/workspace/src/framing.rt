@@ -1,19 +1,34 @@
-// Loading a frame from a store.
-ghost use Rattle.std.specs.Prelude.{◌≡◌, take};
+// Loading a frame from a store, and the gates at some of its places.
+ghost use Rattle.std.specs.Prelude.{◌≡◌};
+ghost use Rattle.fixed_list.specs.Lists.{contents};
 ghost use Rattle.workspace.specs.Matching.{frame_at};
+ghost use Rattle.workspace.specs.Occurrences.{at_places};
 
 use super::frame::{Frame, REACH};
+use super::named::Distances;
+use super::posed::Chosen;
+use fixed_list::FixedList;
 use gates::Gate;
 use stores::Store;
 
 // The frame from a place on: no gate where the list ends before it.
 pub(crate) fn frame_from<S: Store>(store: &S, first: usize) -> Frame
-    ensures { take result.count result.gates ≡ frame_at (S.Store.means store.now).gates first }
+    ensures { contents result ≡ frame_at (S.Store.means store.now).gates first }
 {
-    let mut gates = [Gate::BLANK; REACH];
-    let count = store.count().saturating_sub(first).min(REACH);
-    for distance in 0..count {
-        gates[distance] = store.read(first + distance).unwrap_or(Gate::BLANK);
+    let mut frame = FixedList::new(Gate::BLANK);
+    let end = store.count().min(first.saturating_add(REACH));
+    for place in first..end {
+        let _ = frame.push(store.read(place).unwrap_or(Gate::BLANK));
     }
-    Frame { gates, count }
+    frame
+}
+
+// The gates at the distances; a blank one behind the end of the frame.
+pub(crate) fn gates_at(frame: &[Gate], distances: &Distances) -> Chosen
+    ensures { contents result ≡ at_places frame.now (contents distances.now) }
+{
+    distances.map(
+        Gate::BLANK,
+        |distance| frame.get(distance).copied().unwrap_or(Gate::BLANK),
+    )
 }

@@ -1,14 +1,15 @@
 // The numbers that can come next in a key, one function for each part of a key.
 ghost use Rattle.std.specs.Prelude.{◌≡◌, ℕ, ◌-◌, ◌*◌, ◌^◌, ◌<◌, ◌≤◌, not, ◌&&◌, ltb, List, length, drop, nat_le, nat_lt};
+ghost use Rattle.fixed_list.specs.Lists.{contents};
 ghost use Rattle.gates.specs.Lines.{bit};
 ghost use Rattle.search.specs.Keys.{keyed};
 ghost use Rattle.workspace.specs.Notes.{can_stand, image_at, possible, some_of};
 ghost use Rattle.workspace.specs.Proposals.{template_of};
-ghost use Rattle.workspace.specs.Starts.{IsSet, framed, movable};
+ghost use Rattle.workspace.specs.Starts.{IsSet, movable};
 ghost use Rattle.workspace.specs.TurnTests.{has_number_lem};
 
 use super::Template;
-use super::decoding::BEFORE_MAP;
+use super::named::BEFORE_MAP;
 use super::notes::{Image, Note};
 use super::noting::narrowed_set;
 use super::numbers::numbers_where;
@@ -66,14 +67,14 @@ fn is_mapped(key: &Key, x: u8) -> bool
 
 // Whether the image of the gate can still stand somewhere, where line x is the image of the line.
 fn can_still_stand<K: GateKind>(start: &Start<K>, image: &Image, line: u8, x: u8) -> bool
-    ensures { x < 32 → result ≡ some_of image.now.reached (can_stand K.means (framed start.now.frame) image.now.member.gate line x) }
+    ensures { x < 32 → result ≡ some_of image.now.reached (can_stand K.means (contents start.now.frame) image.now.member.gate line x) }
 {
     narrowed_set::<K>(start, image.reached, image.member.gate, line, x) != 0
 }
 
 // Whether each of the first few gates can still stand somewhere, where line x is the image of the line.
 fn is_possible<K: GateKind>(start: &Start<K>, note: &Note, few: usize, line: u8, x: u8) -> bool
-    ensures { x < 32 → result ≡ possible K.means (framed start.now.frame) note.now few line x }
+    ensures { x < 32 → result ≡ possible K.means (contents start.now.frame) note.now few line x }
 {
     note.images
         .as_slice()
@@ -92,7 +93,7 @@ pub(crate) fn next_lines<K: GateKind>(
     lines: u8,
 ) -> u64
     ensures { lines ≤ 32
-        → IsSet result (λ x. nat_lt x lines && (not (has_number_lem (drop 6 (keyed key.now)) x) && possible K.means (framed start.now.frame) note.now few line x)) }
+        → IsSet result (λ x. nat_lt x lines && (not (has_number_lem (drop 6 (keyed key.now)) x) && possible K.means (contents start.now.frame) note.now few line x)) }
 {
     numbers_where(lines as usize, |x| {
         let x = x as u8;
@@ -107,7 +108,7 @@ pub(crate) fn next_places<K: GateKind>(
     place: usize,
     last: usize,
 ) -> u64
-    ensures { IsSet result (λ d. bit (image_at note.now place).reached d && (nat_lt d (length (framed start.now.frame)) && (nat_lt last d && movable K.means (framed start.now.frame) note.now.chosen d))) }
+    ensures { IsSet result (λ d. bit (image_at note.now place).reached d && (nat_lt d (length (contents start.now.frame)) && (nat_lt last d && movable K.means (contents start.now.frame) note.now.chosen d))) }
 {
     match note.images.as_slice().get(place) {
         None => 0,

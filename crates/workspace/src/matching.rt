@@ -7,7 +7,7 @@ ghost use Rattle.workspace.specs.Notes.{Noted};
 ghost use Rattle.workspace.specs.Firsts.{Started};
 ghost use Rattle.workspace.specs.Shelves.{IsNumbered, entries_of};
 
-use super::decoding::BEFORE_MAP;
+use super::named::BEFORE_MAP;
 use super::notes::{NO_IMAGE, Note};
 use super::occurs::is_occurrence;
 use super::start::{Start, start_at};
@@ -145,7 +145,7 @@ impl<S: Store> Problem for Holdings<S> {
     }
 
     fn occurs(&self, start: &Start<S::Kind>, note: &Note, key: &Key) -> bool {
-        is_occurrence::<S::Kind>(&start.frame, self.store.lines(), &self.shelf, key)
+        is_occurrence::<S::Kind>(start.frame.as_slice(), self.store.lines(), &self.shelf, key)
     }
 
     fn shown(&self, start: &Start<S::Kind>, note: &Note, key: &Key) -> Shown {

@@ -1,10 +1,21 @@
 // What a key names, read into numbers of their sizes.
-ghost use Rattle.std.specs.Prelude.{◌≡◌, ◌≤◌, length, take};
+ghost use Rattle.std.specs.Prelude.{◌≡◌, ◌∷◌};
+ghost use Rattle.fixed_list.specs.Lists.{contents};
 
+use super::template::MOST_GATES;
+use fixed_list::FixedList;
 use gates::LineSet;
 
+// How many numbers stand before a key's line map.
+pub(crate) const BEFORE_MAP: usize = 6;
+
+// The lines that a turned template's lines become, from its line 0 on.
+pub(crate) type Table = FixedList<u8, 4>;
+
+// The distances of places from the first, which is at 0.
+pub(crate) type Distances = FixedList<usize, MOST_GATES>;
+
 // An occurrence that a key names: its template's number, the turn, and its places, the later ones by their distance from the first.
-// The first `lines` entries of the table and the first `count` distances count; what stands behind them has no meaning.
 #[derive(Clone, Copy)]
 pub(crate) struct Named {
     pub(crate) first: usize,
@@ -12,21 +23,19 @@ pub(crate) struct Named {
     pub(crate) back: bool,
     pub(crate) rotation: usize,
     pub(crate) flips: LineSet,
-    pub(crate) table: [u8; 4],
-    pub(crate) lines: usize,
-    pub(crate) later: [usize; 8],
-    pub(crate) count: usize,
-    ghost wide: { length table ≡ 4 },
-    ghost narrow: { lines ≤ 4 },
-    ghost long: { length later ≡ 8 },
-    ghost few: { count ≤ 7 },
+    pub(crate) table: Table,
+    pub(crate) later: FixedList<usize, 7>,
 }
 
 impl Named {
-    // The distances of the later places from the first.
-    pub(crate) fn later(&self) -> &[usize]
-        ensures { result.now ≡ take self.now.count self.now.later }
+    // The distances of all places.
+    pub(crate) fn distances(&self) -> Distances
+        ensures { contents result ≡ 0 ∷ contents self.now.later }
     {
-        &self.later[0..self.count]
+        let mut distances = FixedList::of(&[0], 0);
+        for distance in self.later.as_slice() {
+            let _ = distances.push(*distance);
+        }
+        distances
     }
 }

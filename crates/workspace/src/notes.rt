@@ -2,7 +2,6 @@
 use super::posed::Member;
 use super::template::MOST_GATES;
 use fixed_list::FixedList;
-use gates::Gate;
 
 // A gate of a posed template, and the distances from the first place at which its image can stand.
 #[derive(Clone, Copy)]
@@ -13,10 +12,7 @@ pub(crate) struct Image {
 
 // What stands behind the images of a note.
 pub(crate) const NO_IMAGE: Image = Image {
-    member: Member {
-        position: 0,
-        gate: Gate::BLANK,
-    },
+    member: Member::BLANK,
     reached: 0,
 };
 

@@ -6,7 +6,7 @@ ghost use Rattle.gates.specs.Lines.{bit};
 ghost use Rattle.workspace.specs.Matching.{posed as posed_list};
 ghost use Rattle.workspace.specs.Notes.{Narrows, can_stand, members_in, open_reach};
 ghost use Rattle.workspace.specs.Proposals.{template_of};
-ghost use Rattle.workspace.specs.Starts.{IsSet, framed};
+ghost use Rattle.workspace.specs.Starts.{IsSet};
 
 use super::Template;
 use super::notes::{Image, NO_IMAGE, Note};
@@ -31,8 +31,7 @@ pub(crate) fn posed_note<K: GateKind>(
     ensures chooses { result.chosen ≡ 1 }
 {
     let posed = pose::<K>(template, back, rotation, flips);
-    let members = FixedList::of(posed.members(), NO_IMAGE.member);
-    let mut images = members.map(
+    let mut images = posed.map(
         NO_IMAGE,
         |member| Image {
             member,
@@ -51,7 +50,7 @@ pub(crate) fn narrowed_set<K: GateKind>(
     line: u8,
     x: u8,
 ) -> u64
-    ensures { x < 32 → IsSet result (λ d. bit set d && can_stand K.means (framed start.now.frame) gate line x d) }
+    ensures { x < 32 → IsSet result (λ d. bit set d && can_stand K.means (contents start.now.frame) gate line x d) }
 {
     set & role_set::<K>(start, gate, line, x)
 }
@@ -59,7 +58,7 @@ pub(crate) fn narrowed_set<K: GateKind>(
 // The note after line x became the image of the line.
 pub(crate) fn narrowed<K: GateKind>(start: &Start<K>, above: &Note, line: u8, x: u8) -> Note
     ensures poses { members_in result.images ≡ members_in above.now.images }
-    ensures reaches { x < 32 → AllZip (Narrows K.means (framed start.now.frame) line x) (contents above.now.images) (contents result.images) }
+    ensures reaches { x < 32 → AllZip (Narrows K.means (contents start.now.frame) line x) (contents above.now.images) (contents result.images) }
     ensures chooses { result.chosen ≡ above.now.chosen }
 {
     let images = above.images.map(

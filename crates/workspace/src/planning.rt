@@ -9,7 +9,7 @@ ghost use Rattle.workspace.specs.Sweeps.{Replaced};
 
 use super::decoding::decode;
 use super::extension::extend;
-use super::framing::frame_from;
+use super::framing::{frame_from, gates_at};
 use super::plan::Plan;
 use super::store_edits::{put_inverses, take_out};
 use super::{Holdings, Replacement};
@@ -23,19 +23,17 @@ impl<S: Store> Holdings<S> {
             → OccursIn S.Kind.GateKind.means (condition_of S.Store.means self.now) (keyed key.now)
             → Plans S.Kind.GateKind.means (condition_of S.Store.means self.now) (keyed key.now) result }
     {
-        let number = key.at(1) as usize;
-        if number >= self.shelf.count() {
-            return None;
-        }
-        let template = self.shelf.template(number);
-        let Some(named) = decode(template.lines(), key) else {
-            return None;
-        };
+        let template = self.shelf.template_at(usize::from(key.at(1)))?;
+        let named = decode(template.lines(), key)?;
         let frame = frame_from(&self.store, named.first);
-        match extend::<S::Kind>(&frame, self.store.lines(), template, &named) {
-            None => None,
-            Some(extended) => Some(Plan { named, extended }),
-        }
+        let chosen = gates_at(frame.as_slice(), &named.distances());
+        let extended = extend::<S::Kind>(
+            chosen.as_slice(),
+            self.store.lines(),
+            template,
+            &named,
+        ).ok()?;
+        Some(Plan { named, extended })
     }
 
     // Takes the chosen gates out, puts the inverses of the template's other gates in, last to first, and counts the replacement.
@@ -45,21 +43,15 @@ impl<S: Store> Holdings<S> {
             → Replaced S.Kind.GateKind.means (condition_of S.Store.means self.old) key result (condition_of S.Store.means self.new) }
     {
         let named = &plan.named;
-        let extended = &plan.extended;
-        let chosen = (named.count + 1).min(extended.count);
-        take_out(&mut self.store, named.first, &named.later[0..named.count]);
-        put_inverses(
-            &mut self.store,
-            named.first,
-            &extended.members[chosen..extended.count],
-        );
-        if named.number < self.shelf.count() {
-            self.shelf.count_one(named.number);
-        }
+        let extended = plan.extended.as_slice();
+        let chosen = (named.later.len() + 1).min(extended.len());
+        take_out(&mut self.store, named.first, named.later.as_slice());
+        put_inverses(&mut self.store, named.first, &extended[chosen..]);
+        self.shelf.count_one(named.number);
         Replacement {
             template: named.number,
             place: named.first,
-            saved: (2 * chosen).saturating_sub(extended.count),
+            saved: (2 * chosen).saturating_sub(extended.len()),
         }
     }
 

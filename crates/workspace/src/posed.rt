@@ -1,6 +1,6 @@
 // Templates posed: directed, rotated and flipped, still on their own lines.
-ghost use Rattle.std.specs.Prelude.{◌≡◌, ◌≤◌, length, take};
-
+use super::template::MOST_GATES;
+use fixed_list::FixedList;
 use gates::Gate;
 
 // A gate with the position that it has in its template.
@@ -10,20 +10,16 @@ pub(crate) struct Member {
     pub(crate) gate: Gate,
 }
 
-// The gates of a posed template in order; what stands behind the counted ones has no meaning.
-#[derive(Clone, Copy)]
-pub(crate) struct Posed {
-    pub(crate) members: [Member; 8],
-    pub(crate) count: usize,
-    ghost wide: { length members ≡ 8 },
-    ghost few: { count ≤ 8 },
+impl Member {
+    // What stands where a list has no member.
+    pub(crate) const BLANK: Member = Member {
+        position: 0,
+        gate: Gate::BLANK,
+    };
 }
 
-impl Posed {
-    // The members that count.
-    pub(crate) fn members(&self) -> &[Member]
-        ensures { result.now ≡ take self.now.count self.now.members }
-    {
-        &self.members[0..self.count]
-    }
-}
+// The gates of a posed template, in order.
+pub(crate) type Posed = FixedList<Member, MOST_GATES>;
+
+// The gates of a cascade that stand for the first of a template's.
+pub(crate) type Chosen = FixedList<Gate, MOST_GATES>;

@@ -4,7 +4,7 @@ ghost use Rattle.std.specs.Option.{option_map};
 ghost use Rattle.fixed_list.specs.Lists.{push_outcome, pushed, removed};
 ghost use Rattle.workspace.specs.Conditions.{counted_once, entry};
 ghost use Rattle.workspace.specs.Proposals.{template_of};
-ghost use Rattle.workspace.specs.Shelves.{IsNumbered, counted_at, entries_of, entry_of, listed_template};
+ghost use Rattle.workspace.specs.Shelves.{IsNumbered, counted_at, entries_of, entry_of};
 
 use super::Template;
 use super::entry::Entry;
@@ -54,14 +54,6 @@ impl Shelf {
         ensures few { result ≤ MOST_ENTRIES }
     {
         self.entries.len()
-    }
-
-    // The template of an entry.
-    pub(crate) fn template(&self, number: usize) -> &Template
-        requires { number < length (entries_of self.now) }
-        ensures { template_of result.now ≡ listed_template self.now number }
-    {
-        &self.entries.as_slice()[number].template
     }
 
     // The template of an entry, where there is one of that number.

@@ -1,9 +1,10 @@
 // What is known once for a first place: the frame, who blocks whom in it, and where each line has which role.
+ghost use Rattle.fixed_list.specs.Lists.{contents};
 ghost use Rattle.gates.specs.Lines.{bit};
 ghost use Rattle.std.specs.Bool.{beq};
 ghost use Rattle.std.specs.Prelude.{◌≡◌, ◌<◌, ◌&&◌, length, nat_lt, ⊤};
 ghost use Rattle.workspace.specs.Matching.{frame_at};
-ghost use Rattle.workspace.specs.Starts.{IsSet, Known, at_distance, framed, movable, same_role, within};
+ghost use Rattle.workspace.specs.Starts.{IsSet, Known, at_distance, movable, same_role, within};
 
 use super::blockers::all_blockers;
 use super::frame::{Frame, REACH};
@@ -24,7 +25,7 @@ pub struct Start<K: GateKind> {
     blockers: [u64; REACH],
     roles: [RoleSets; LINES],
     kind: PhantomData<K>,
-    ghost known: { Known K.means (framed frame) blockers roles },
+    ghost known: { Known K.means (contents frame) blockers roles },
 }
 
 // A copy is a clone.
@@ -40,10 +41,10 @@ impl<K: GateKind> Clone for Start<K> {
 
 // What is known for this first place.
 pub(crate) fn start_at<S: Store>(store: &S, first: usize) -> Start<S::Kind>
-    ensures { framed result.frame ≡ frame_at (S.Store.means store.now).gates first }
+    ensures { contents result.frame ≡ frame_at (S.Store.means store.now).gates first }
 {
     let frame = frame_from(store, first);
-    let gates = &frame.gates[..frame.count];
+    let gates = frame.as_slice();
     Start {
         frame,
         blockers: all_blockers::<S::Kind>(gates),
@@ -61,7 +62,7 @@ fn agreeing(set: u64, wanted: bool) -> u64
 
 // The distances at which line x has the roles that the other line has in the gate.
 pub(crate) fn role_set<K: GateKind>(start: &Start<K>, gate: Gate, line: u8, x: u8) -> u64
-    ensures { x < 32 → IsSet result (λ d. nat_lt d (length (framed start.now.frame)) && same_role K.means gate line (at_distance (framed start.now.frame) d) x) }
+    ensures { x < 32 → IsSet result (λ d. nat_lt d (length (contents start.now.frame)) && same_role K.means gate line (at_distance (contents start.now.frame) d) x) }
 {
     if x >= WIDTH {
         return 0;
@@ -70,7 +71,7 @@ pub(crate) fn role_set<K: GateKind>(start: &Start<K>, gate: Gate, line: u8, x: u
     let positive = agreeing(roles.positive, sets::has_line(gate.positive, line));
     let negative = agreeing(roles.negative, sets::has_line(gate.negative, line));
     let targets = agreeing(roles.targets, sets::has_line(K::targets(gate), line));
-    candidates::numbers_below(start.frame.count) & (positive & (negative & targets))
+    candidates::numbers_below(start.frame.len()) & (positive & (negative & targets))
 }
 
 // Whether all numbers of the set are in the other.
@@ -82,9 +83,9 @@ fn is_within(set: u64, other: u64) -> bool
 
 // The distances behind this one all of whose blockers are chosen.
 pub(crate) fn eligible<K: GateKind>(start: &Start<K>, chosen: u64, after: usize) -> u64
-    ensures { IsSet result (λ d. nat_lt d (length (framed start.now.frame)) && (nat_lt after d && movable K.means (framed start.now.frame) chosen d)) }
+    ensures { IsSet result (λ d. nat_lt d (length (contents start.now.frame)) && (nat_lt after d && movable K.means (contents start.now.frame) chosen d)) }
 {
-    numbers_where(start.frame.count, |distance| {
+    numbers_where(start.frame.len(), |distance| {
         after < distance && is_within(start.blockers[distance], chosen)
     })
 }

@@ -1,36 +1,15 @@
-use Rattle.std.proofs.Common.{sym, refl, ◌∙◌}
+use Rattle.std.proofs.Common.{◌≡◌, rules, tests, ◌∙◌}
 use mathlib.Core.Bool.{beq}
-use Rattle.std.proofs.lemmas.List.{at_drop_all}
+use Rattle.std.specs.List.{list_all}
 use Rattle.gates.specs.Controls.{reads}
+use Rattle.std.proofs.lemmas.Iterator.{YieldsList-from_slice}
+use Rattle.std.proofs.lemmas.Iterator.Search.{all_from_yields_List}
+use Rattle.workspace.specs.declared.posed.Member.{Member}
 use Rattle.workspace.specs.Turns.{member}
-use Rattle.workspace.specs.Occurrences.{fits_group}
-use Rattle.workspace.specs.Posing.{placed_of}
-use Rattle.workspace.proofs.Poses.{no_held}
-use Rattle.workspace.proofs.Copies.{each_more, each_fails}
+use Rattle.workspace.proofs.Asks.{fits_is}
 use Rattle.workspace.proofs.asking.does_group_fit.Goals as goal
-
-pub loop-member-init : goal.loop-member-init
-loop-member-init c = refl
-
-pub returns-then-not-does_agree : goal.returns-then-not-does_agree
-returns-then-not-does_agree c =
-    let groups = c.args.groups.now in
-    let line = c.args.line in
-    let number = c.args.number in
-    each_fails (λ ms. fits_group groups (placed_of ms) line number) (λ m. beq (member groups number m.position) (reads m.gate line)) (λ m ms. refl)
-    c.args.chosen.now c.loop-member.member-index no_held c.loop-member-test.true c.if-not-does_agree.ensures
-    ∙ c.loop-member.invariant
-
-pub loop-member-preserved : goal.loop-member-preserved
-loop-member-preserved c =
-    let groups = c.args.groups.now in
-    let line = c.args.line in
-    let number = c.args.number in
-    each_more (λ ms. fits_group groups (placed_of ms) line number) (λ m. beq (member groups number m.position) (reads m.gate line)) (λ m ms. refl)
-    c.args.chosen.now c.loop-member.member-index no_held c.loop-member-test.true c.if-not-does_agree.ensures
-    ∙ c.loop-member.invariant
 
 pub returns : goal.returns
 returns c =
-    sym (at_drop_all (λ ms. fits_group c.args.groups.now (placed_of ms) c.args.line c.args.number) c.args.chosen.now c.loop-member.member-index c.loop-member-test.false)
-    ∙ c.loop-member.invariant
+    (let is : c.all.result ≡ list_all (λ (m : Member). beq (member c.args.groups.now c.args.number m.position) (reads m.gate c.args.line)) c.args.chosen.now = all_from_yields_List (λ (m : Member). beq (member c.args.groups.now c.args.number m.position) (reads m.gate c.args.line)) _ _ _ c.all.ensures.ran (YieldsList-from_slice c.args.chosen.now cc) (λ x b q k. search (rules, tests)) in is)
+    ∙ fits_is c.args.groups.now c.args.line c.args.number c.args.chosen.now

@@ -1,31 +1,18 @@
-use Rattle.std.proofs.Common.{◌≡◌, suc, ◌-◌, length, ap, ◌∙◌, arith}
-use Rattle.workspace.specs.Occurrences.{fits_group, lowest}
+use Rattle.std.proofs.Common.{◌≡◌, suc, length, rules, tests, sym, refl, ap, ◌∙◌, arith}
+use Rattle.std.specs.List.{find, range_with_len}
+use Rattle.std.proofs.lemmas.Iterator.Adapters.{option_map_id}
+use Rattle.std.proofs.lemmas.Iterator.{YieldsList-from_range}
+use Rattle.std.proofs.lemmas.Iterator.Search.{find_from_yields_List}
+use Rattle.workspace.specs.Extensions.{found_as}
+use Rattle.workspace.specs.Occurrences.{fits_group}
 use Rattle.workspace.specs.Posing.{placed_of}
-use Rattle.workspace.proofs.Asks.{lowest_more, lowest_found, lowest_none}
+use Rattle.workspace.proofs.Asks.{lowest_is}
 use Rattle.workspace.proofs.asking.find_group.Goals as goal
 
-pub loop-number-init : goal.loop-number-init
-loop-number-init c =
-    let groups = c.args.groups.now in
-    let all : suc (length groups) - 0 ≡ suc (length groups) = omega arith in
-    ap (lowest (fits_group groups (placed_of c.args.chosen.now) c.args.line) c.args.sign 0) all
-
-pub returns-then-does_group_fit : goal.returns-then-does_group_fit
-returns-then-does_group_fit c =
-    let groups = c.args.groups.now in
-    lowest_found (fits_group groups (placed_of c.args.chosen.now) c.args.line) c.args.sign c.loop-number.number (suc (length groups)) (omega (arith, c.loop-number-test.true))
-    c.if-does_group_fit.ensures
-    ∙ c.loop-number.invariant
-
-pub loop-number-preserved : goal.loop-number-preserved
-loop-number-preserved c =
-    let groups = c.args.groups.now in
-    lowest_more (fits_group groups (placed_of c.args.chosen.now) c.args.line) c.args.sign c.loop-number.number (suc (length groups)) (omega (arith, c.loop-number-test.true))
-    c.if-does_group_fit.ensures
-    ∙ c.loop-number.invariant
-
 pub returns : goal.returns
-returns c =
+returns c sign =
     let groups = c.args.groups.now in
-    lowest_none (fits_group groups (placed_of c.args.chosen.now) c.args.line) c.args.sign c.loop-number.number (suc (length groups)) (omega (arith, c.loop-number-test.false))
-    ∙ c.loop-number.invariant
+    let fits = fits_group groups (placed_of c.args.chosen.now) c.args.line in
+    let is : c.find.result ≡ find fits (range_with_len 0 (suc (length groups))) =
+    sym (option_map_id c.find.result) ∙ find_from_yields_List fits _ _ c.find.result c.find.ensures.ran (YieldsList-from_range 0 _ (suc (length groups)) refl (omega arith)) (λ x b q k. search (rules, tests)) in
+    ap (found_as sign) is ∙ lowest_is fits sign 0 (suc (length groups))

@@ -1,48 +1,19 @@
-use Rattle.std.proofs.Common.{suc, ◌<◌, take, refl, ◌∙◌, ap₂, arith}
+use Rattle.std.proofs.Common.{◌≡◌, List, length, take, rules, ◌∙◌, ap}
+use lib.Pointwise.{pointwise}
+use Rattle.fixed_list.specs.Lists.{contents}
+use Rattle.gates.specs.declared.gate.Gate.{Gate}
+use Rattle.workspace.specs.declared.posed.Member.{Member}
 use Rattle.workspace.specs.OccurrenceTests.{same_gate}
-use Rattle.workspace.proofs.Poses.{no_gate}
-use Rattle.workspace.proofs.Choosing.{chosen_gates, first_gates, chosen_long, first_long, chosen_at, first_at, same_longer, same_more, same_fails, same_all}
+use Rattle.workspace.specs.Posing.{placed_of}
+use Rattle.workspace.specs.Turns.{gates_of}
+use Rattle.workspace.proofs.Lists.{turned}
+use Rattle.workspace.proofs.CarryingOut.{members_gates}
 use Rattle.workspace.proofs.choice.are_first.Goals as goal
-
-pub returns-then-named-extended : goal.returns-then-named-extended
-returns-then-named-extended c =
-    let frame = take c.args.frame.now.count c.args.frame.now.gates in
-    let m = c.args.named.now in
-    let p = c.args.extended.now in
-    same_longer same_gate (chosen_gates frame m p) (first_gates frame m p) (omega (arith, chosen_long frame m p, first_long frame m p, c.if-named-extended.true))
-
-pub loop-number-init : goal.loop-number-init
-loop-number-init c = refl
-
-pub returns-then-not-are_same : goal.returns-then-not-are_same
-returns-then-not-are_same c =
-    let frame = take c.args.frame.now.count c.args.frame.now.gates in
-    let m = c.args.named.now in
-    let p = c.args.extended.now in
-    let i = c.loop-number.number in
-    let lt : i < suc m.count = omega (arith, c.loop-number-test.true) in
-    same_fails same_gate (chosen_gates frame m p) (first_gates frame m p) i no_gate (omega (arith, chosen_long frame m p)) (omega (arith, first_long frame m p, c.if-named-extended.false))
-    (c.if-not-are_same.ensures
-    ∙ ap₂ same_gate (chosen_at frame m p i c.find_distance.result c.find_gate-chosen.result lt c.find_distance.ensures c.find_gate-chosen.ensures) (first_at frame m p i lt c.if-named-extended.false))
-    ∙ c.loop-number.invariant
-
-pub loop-number-preserved : goal.loop-number-preserved
-loop-number-preserved c =
-    let frame = take c.args.frame.now.count c.args.frame.now.gates in
-    let m = c.args.named.now in
-    let p = c.args.extended.now in
-    let i = c.loop-number.number in
-    let lt : i < suc m.count = omega (arith, c.loop-number-test.true) in
-    same_more same_gate (chosen_gates frame m p) (first_gates frame m p) i no_gate (omega (arith, chosen_long frame m p)) (omega (arith, first_long frame m p, c.if-named-extended.false))
-    (c.if-not-are_same.ensures
-    ∙ ap₂ same_gate (chosen_at frame m p i c.find_distance.result c.find_gate-chosen.result lt c.find_distance.ensures c.find_gate-chosen.ensures) (first_at frame m p i lt c.if-named-extended.false))
-    ∙ c.loop-number.invariant
 
 pub returns : goal.returns
 returns c =
-    let frame = take c.args.frame.now.count c.args.frame.now.gates in
-    let m = c.args.named.now in
-    let p = c.args.extended.now in
-    same_all same_gate (chosen_gates frame m p) (first_gates frame m p) c.loop-number.number (omega (arith, chosen_long frame m p, c.loop-number-test.false))
-    (omega (arith, first_long frame m p, c.loop-number-test.false))
-    ∙ c.loop-number.invariant
+    let chosen = c.args.chosen.now in
+    let members = contents c.args.extended.now in
+    let is : c.as_slice.result.now ≡ gates_of (placed_of members) =
+    c.as_slice.ensures.is ∙ turned _ (λ (m : Member). m.gate) (λ x y r. search rules) members (contents c.map-gates.result) c.map-gates.ensures ∙ members_gates members in
+    c.starts_with.ensures.value ∙ ap (λ (gs : List Gate). pointwise same_gate chosen (take (length chosen) gs)) is

@@ -1,7 +1,7 @@
-use Rattle.std.proofs.Common.{◌≡◌, length, take, drop}
-use Rattle.search.specs.Keys.{keyed}
+use Rattle.std.proofs.Common.{◌≡◌, take}
+use Rattle.fixed_list.specs.Lists.{contents}
 use Rattle.workspace.proofs.decoding.read_later.Given as goal
 
--- the distances so far stand at the array's front
-abbrev pub invariant-loop-place : goal.invariant-loop-place
-invariant-loop-place l = (length l.later ≡ 8) × (take l.place l.later ≡ take l.place (drop l.lines (drop 6 (keyed l.key))))
+-- the numbers so far are in the list
+abbrev pub invariant-loop-number : goal.invariant-loop-number
+invariant-loop-number l = contents l.later ≡ take l.number-index l.numbers

@@ -1,36 +1,14 @@
-use Rattle.std.proofs.Common.{◌≡◌, ◌≤◌, map, length, sym, refl, ap, ◌∙◌, arith, length-set}
-use Rattle.std.proofs.lemmas.List.{length-map, get_or-map}
-use Rattle.workspace.specs.Turns.{Placed}
-use Rattle.workspace.specs.Extensions.{controlled_in}
-use Rattle.workspace.specs.Matching.{members_of}
-use Rattle.workspace.proofs.Poses.{no_member, members_long, members_at, members_more, members_all}
+use Rattle.std.proofs.Common.{◌∙◌, rules, sym}
+use Rattle.std.proofs.lemmas.Simd.{map-map}
+use Rattle.fixed_list.specs.Lists.{contents}
+use Rattle.workspace.specs.declared.posed.Member.{Member}
+use Rattle.workspace.specs.Extensions.{added_of, controlled_in}
+use Rattle.workspace.specs.Turns.{at_position}
+use Rattle.workspace.proofs.Lists.{mapped}
 use Rattle.workspace.proofs.extension.control_group.Goals as goal
-
-pub loop-place-init : goal.loop-place-init
-loop-place-init g c = (c.args.posed.now.wide, refl)
-
-pub loop-place-preserved : goal.loop-place-preserved
-loop-place-preserved g c =
-    let p = c.args.posed.now in
-    let f : Placed → Placed = controlled_in g.K.GateKind.means c.args.groups.now record { line = c.args.line; sign = c.args.sign; group = c.args.group } in
-    let i = c.loop-place.place in
-    let xs = members_of p.members p.count in
-    let fits : p.count ≤ length p.members = omega (arith, p.wide, p.few) in
-    let lt = c.loop-place-test.true in
-    let long : length xs ≡ p.count = members_long p.members p.count fits in (
-      length-set c.loop-place.members i _ ∙ c.loop-place.invariant.0,
-      members_more c.loop-place.members (map f xs) i c.control_member.result (omega (arith, c.loop-place.invariant.0, p.few)) (omega (arith, length-map xs f)) c.loop-place.invariant.1
-          (c.control_member.ensures ∙ ap f (sym (members_at p.members p.count i fits lt)) ∙ sym (get_or-map f xs i no_member no_member (omega arith))),
-    )
-
-pub invariant_of-result : goal.invariant_of-result
-invariant_of-result g c = record { wide = c.loop-place.invariant.0; few = c.args.posed.now.few }
 
 pub returns : goal.returns
 returns g c =
-    let p = c.args.posed.now in
-    let f : Placed → Placed = controlled_in g.K.GateKind.means c.args.groups.now record { line = c.args.line; sign = c.args.sign; group = c.args.group } in
-    let xs = members_of p.members p.count in
-    let fits : p.count ≤ length p.members = omega (arith, p.wide, p.few) in
-    members_all c.loop-place.members (map f xs) c.loop-place.place p.count c.loop-place-test.false c.loop-place.auto.place-end
-    (length-map xs f ∙ members_long p.members p.count fits) c.loop-place.invariant.1
+    let control = controlled_in g.K.GateKind.means c.args.groups.now (added_of c.args.addition) in
+    mapped _ (λ (m : Member). control (at_position m.position m.gate)) (λ (m : Member). at_position m.position m.gate) (λ x y r. search rules) (contents c.args.posed.now) (contents c.map.result) c.map.ensures
+    ∙ sym (map-map control (λ (m : Member). at_position m.position m.gate) (contents c.args.posed.now))

@@ -1,53 +1,32 @@
-use Rattle.std.proofs.Common.{◌≡◌, ℕ, suc, ◌<◌, ◌≤◌, List, ◌∷◌, length, get_or, take, refl, ap, ◌∙◌, arith, length-set}
-use Rattle.std.proofs.lemmas.List.{length-map, length-take}
-use Rattle.workspace.specs.declared.posed.Posed.{Posed}
-use Rattle.workspace.specs.declared.named.Named.{Named}
-use Rattle.workspace.specs.Turns.{Placed}
-use Rattle.workspace.specs.Occurrences.{at_places, beside}
-use Rattle.workspace.specs.Matching.{members_of}
-use Rattle.workspace.proofs.Poses.{no_held, no_gate, members_long, members_at, members_more, members_all}
+use Rattle.std.proofs.Common.{◌∙◌, ap, ap₂, sym, List, take, length, arith}
+use Rattle.std.proofs.lemmas.List.{length-map, length_push, take_all}
+use Rattle.std.proofs.lemmas.Slice.Zip.{zip_turn, zip_end}
+use Rattle.fixed_list.specs.Lists.{contents}
+use Rattle.workspace.specs.declared.posed.Member.{Member}
+use Rattle.workspace.specs.Occurrences.{beside}
+use Rattle.workspace.specs.Posing.{placed_of}
+use Rattle.workspace.specs.Turns.{at_position}
+use Rattle.workspace.proofs.Poses.{no_gate, no_held}
 use Rattle.workspace.proofs.Extends.{beside_long, beside_more}
 use Rattle.workspace.proofs.extension.stand_beside.Goals as goal
 
--- the distances, and how many there are
-abbrev distances : Named → List ℕ
-distances m = 0 ∷ take m.count m.later
-
-distances_long : (m : Named) → length (distances m) ≡ suc m.count
-distances_long m = ap suc (let e : length (take m.count m.later) ≡ m.count = omega (arith, length-take m.count m.later, m.few, m.long) in e)
-
-turned_long : (p : Posed) → length (members_of p.members p.count) ≡ p.count
-turned_long p = members_long p.members p.count (omega (arith, p.wide, p.few))
-
-pub loop-number-init : goal.loop-number-init
-loop-number-init c = (c.args.turned.now.wide, refl)
-
-pub loop-number-preserved : goal.loop-number-preserved
-loop-number-preserved c =
-    let p = c.args.turned.now in
-    let frame = take c.args.frame.now.count c.args.frame.now.gates in
-    let ds = distances c.args.named.now in
-    let i = c.loop-number.number in
-    let xs = members_of p.members p.count in
-    let fits : p.count ≤ length p.members = omega (arith, p.wide, p.few) in
-    let lx : i < p.count = omega (arith, c.loop-number-test.true, c.min-count.ensures) in
-    let ly : i < length xs = omega (arith, turned_long p) in
-    let ld : i < length ds = omega (arith, c.loop-number-test.true, c.min-count.ensures, distances_long c.args.named.now) in (
-      length-set c.loop-number.members i _ ∙ c.loop-number.invariant.0,
-      members_more c.loop-number.members (beside xs (at_places frame ds)) i record { position = (get_or p.members i no_held).position; gate = c.find_gate.result }
-          (omega (arith, c.loop-number.invariant.0, p.few)) (omega (arith, beside_long xs (at_places frame ds), length-map ds (λ q. get_or frame q no_gate))) c.loop-number.invariant.1
-          (beside_more xs frame ds i c.find_distance.result (get_or p.members i no_held).position c.find_gate.result ly ld
-          (ap (λ (x : Placed). x.position) (members_at p.members p.count i fits lx)) c.find_distance.ensures c.find_gate.ensures),
-    )
-
-pub invariant_of-result : goal.invariant_of-result
-invariant_of-result c = record { wide = c.loop-number.invariant.0; few = omega (arith, c.min-count.ensures, c.args.turned.now.few) }
+pub loop-member-preserved : goal.loop-member-preserved
+loop-member-preserved c =
+    let ms = c.as_slice.result.now in
+    let gs = c.args.gates.now in
+    let i = length c.loop-member.yielded in
+    let all = λ (xs : List Member). beside (placed_of xs) gs in
+    let turn = zip_turn ms gs c.loop-member.yielded c.into_iter-member-iterator.result c.loop-member.member-iterator c.next.new.self c.next.result (cc) (cc) c.loop-member.yielded_by (c.in-Some.member, c.in-Some.gate) c.in-Some.is c.next.ensures.steps in
+    ap placed_of c.push.ensures.leaves
+    ∙ beside_more ms gs (contents c.loop-member.standing) i c.in-Some.member.now c.in-Some.gate.now turn.0 turn.1 c.as_slice.ensures.few (turn.2 no_held) (turn.3 no_gate)
+    (c.loop-member.invariant ∙ ap (λ (xs : List Member). take i (all xs)) (sym c.as_slice.ensures.is))
+    ∙ ap₂ (λ n xs. take n (all xs)) (sym (length_push c.loop-member.yielded (c.in-Some.member, c.in-Some.gate))) c.as_slice.ensures.is
 
 pub returns : goal.returns
 returns c =
-    let p = c.args.turned.now in
-    let frame = take c.args.frame.now.count c.args.frame.now.gates in
-    let ds = distances c.args.named.now in
-    let xs = members_of p.members p.count in
-    members_all c.loop-number.members (beside xs (at_places frame ds)) c.loop-number.number c.min-count.result c.loop-number-test.false c.loop-number.auto.number-end
-    (omega (arith, beside_long xs (at_places frame ds), length-map ds (λ q. get_or frame q no_gate), turned_long p, distances_long c.args.named.now, c.min-count.ensures)) c.loop-number.invariant.1
+    let ms = c.as_slice.result.now in
+    let gs = c.args.gates.now in
+    let end = zip_end ms gs c.loop-member.yielded c.into_iter-member-iterator.result c.loop-member.member-iterator c.next.new.self c.next.result (cc) (cc) c.loop-member.yielded_by c.in-None.is c.next.ensures.steps in
+    c.loop-member.invariant
+    ∙ take_all (length c.loop-member.yielded) (beside (placed_of (contents c.args.turned.now)) gs)
+    (omega (arith, end, ap length c.as_slice.ensures.is, beside_long (placed_of (contents c.args.turned.now)) gs, length-map (contents c.args.turned.now) (λ (m : Member). at_position m.position m.gate)))

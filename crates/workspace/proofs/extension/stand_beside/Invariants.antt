@@ -1,11 +1,9 @@
-use Rattle.std.proofs.Common.{◌≡◌, ◌∷◌, length, take}
-use Rattle.workspace.specs.Occurrences.{at_places, beside}
-use Rattle.workspace.specs.Matching.{members_of}
+use Rattle.std.proofs.Common.{◌≡◌, length, take}
+use Rattle.fixed_list.specs.Lists.{contents}
+use Rattle.workspace.specs.Occurrences.{beside}
+use Rattle.workspace.specs.Posing.{placed_of}
 use Rattle.workspace.proofs.extension.stand_beside.Given as goal
 
 -- the gates so far stand beside their positions
-abbrev pub invariant-loop-number : goal.invariant-loop-number
-invariant-loop-number l =
-    (length l.members ≡ 8)
-    × (members_of l.members l.number
-    ≡ take l.number (beside (members_of l.turned.members l.turned.count) (at_places (take l.frame.count l.frame.gates) (0 ∷ take l.named.count l.named.later))))
+abbrev pub invariant-loop-member : goal.invariant-loop-member
+invariant-loop-member l = placed_of (contents l.standing) ≡ take (length l.yielded) (beside (placed_of (contents l.turned)) l.gates)

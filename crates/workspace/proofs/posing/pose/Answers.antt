@@ -1,43 +1,49 @@
-use Rattle.std.proofs.Common.{◌≡◌, ℕ, ◌<◌, ◌≤◌, List, length, refl, ap, ◌∙◌, arith, length-set}
+use Rattle.std.proofs.Common.{◌≡◌, ℕ, Bool, List, map, length, take, sym, ap, ◌∙◌, ap₂, arith, length-set}
+use Rattle.fixed_list.specs.Lists.{contents}
+use Rattle.std.proofs.lemmas.List.{take_all, length-take}
 use Rattle.gates.specs.declared.gate.Gate.{Gate}
-use Rattle.workspace.specs.Matching.{members_of}
-use Rattle.workspace.specs.Posing.{source_place}
-use Rattle.workspace.proofs.Poses.{posed_gates, posed_more, posed_all}
+use Rattle.gates.specs.Cascades.{rotated, flipped_or}
+use Rattle.workspace.specs.declared.posed.Member.{Member}
+use Rattle.workspace.specs.Posing.{placed_of}
+use Rattle.workspace.specs.Turns.{on_gate, placed, directed}
+use Rattle.workspace.proofs.Poses.{each_posed, each_long, each_more, in_order, posed_is}
 use Rattle.workspace.proofs.posing.pose.Goals as goal
+use Rattle.workspace.proofs.posing.pose.Goals.{then-back, else-back}
 
-pub loop-place-init : goal.loop-place-init
-loop-place-init g c = (refl, refl)
-
-pub bounds-gates-position : goal.bounds-gates-position
-bounds-gates-position g c = omega (arith, ap length c.gates-gates.ensures, c.size-size.ensures.is, c.find_source-position.ensures.within)
-
-pub bounds-members-place : goal.bounds-members-place
-bounds-members-place g c = omega (arith, c.size-size.ensures.few, c.loop-place-test.true)
-
-pub loop-place-preserved : goal.loop-place-preserved
-loop-place-preserved g c =
-    let k = g.K.GateKind.means in
+pub loop-position-preserved : goal.loop-position-preserved
+loop-position-preserved g c =
+    let i = c.loop-position.position in
+    let members = c.loop-position.members in
     let gates = c.gates-gates.result.now in
-    let size : c.size-size.result ≡ length gates = omega (arith, ap length c.gates-gates.ensures, c.size-size.ensures.is) in
-    let few : c.min-turned.result ≤ length gates = omega (arith, c.min-turned.ensures) in
-    let inside : c.loop-place.place < length gates = omega (arith, c.loop-place-test.true) in
-    let room : c.loop-place.place < length c.loop-place.members = omega (arith, c.loop-place.invariant.0, bounds-members-place g c) in (
-      length-set c.loop-place.members c.loop-place.place _ ∙ c.loop-place.invariant.0,
-      posed_more k gates c.args.back c.min-turned.result c.args.flips few c.loop-place.members c.loop-place.place inside
-          c.find_source-position.result c.pose_gate-gate.result room c.loop-place.invariant.1
-          (c.find_source-position.ensures.is ∙ ap (λ (m : ℕ). source_place m c.args.back c.min-turned.result c.loop-place.place) size) c.pose_gate-gate.ensures,
-    )
-
-pub invariant_of-result : goal.invariant_of-result
-invariant_of-result g c = record { wide = c.loop-place.invariant.0; few = c.size-size.ensures.few }
+    let sized : c.size-size.result ≡ length gates = c.size-size.ensures.is ∙ sym (ap length c.gates-gates.ensures) in
+    record {
+      long = length-set members i _ ∙ c.loop-position.invariant.long;
+      front = each_more g.K.GateKind.means gates c.args.back c.args.flips members i c.pose_gate-gate.result (omega (arith, c.loop-position.invariant.long, c.loop-position-test.true, c.size-size.ensures.few)) c.loop-position-test.true c.pose_gate-gate.ensures c.loop-position.invariant.front;
+    }
 
 pub returns : goal.returns
 returns g c le =
     let k = g.K.GateKind.means in
     let gates = c.gates-gates.result.now in
-    let size : c.size-size.result ≡ length gates = omega (arith, ap length c.gates-gates.ensures, c.size-size.ensures.is) in
-    let same : c.min-turned.result ≡ c.args.rotation = omega (arith, c.min-turned.ensures, c.size-size.ensures.is) in
-    ap (members_of c.loop-place.members) size
-    ∙ posed_all k gates c.args.back c.min-turned.result c.args.flips c.loop-place.members c.loop-place.place (omega (arith, c.loop-place-test.false)) (omega (arith, c.loop-place.auto.place-end)) c.loop-place.invariant.1
-    ∙ ap (λ (r : ℕ). posed_gates k gates c.args.back r c.args.flips) same
-    ∙ ap (λ (gs : List Gate). posed_gates k gs c.args.back c.args.rotation c.args.flips) c.gates-gates.ensures
+    let back = c.args.back in
+    let r = c.args.rotation in
+    let flips = c.args.flips in
+    let size = c.size-size.result in
+    let sized : size ≡ length gates = c.size-size.ensures.is ∙ sym (ap length c.gates-gates.ensures) in
+    let members = take size c.loop-position.members in
+    let long : length members ≡ size = omega (arith, length-take size c.loop-position.members, c.loop-position.invariant.long, c.size-size.ensures.few) in
+    let at-end : c.loop-position.position ≡ size = omega (arith, c.loop-position-test.false, c.loop-position.auto.position-end) in
+    let each : placed_of members ≡ each_posed k gates back flips =
+    ap (λ (i : ℕ). placed_of (take i c.loop-position.members)) (sym at-end) ∙ c.loop-position.invariant.front
+    ∙ take_all c.loop-position.position (each_posed k gates back flips) (omega (arith, each_long k gates back flips)) in
+    let ordered : c.if-back.counted ≡ in_order back members =
+    elim c.if-back.branch [
+      | then-back w ↦ w.counted-is ∙ w.reverse.ensures.after ∙ ap (λ (b : Bool). in_order b members) (sym w.if-back.true)
+      | else-back w ↦ w.counted-is ∙ ap (λ (b : Bool). in_order b members) (sym w.if-back.false)
+    ] in
+    let whole : contents c.of.result ≡ take 8 c.rotate_left.new.self = c.of.ensures in
+    let same : c.min.result ≡ r = omega (arith, c.min.ensures, le, c.size-size.ensures.is) in
+    let turned : c.rotate_left.new.self ≡ rotated r (in_order back members) = c.rotate_left.ensures.after ∙ ap₂ (λ (m : ℕ) (xs : List Member). rotated m xs) same ordered in
+    ap placed_of (whole ∙ take_all 8 c.rotate_left.new.self (omega (arith, c.rotate_left.ensures.len, c.if-back.auto.counted, long, c.size-size.ensures.few)) ∙ turned)
+    ∙ posed_is k gates back r flips members each
+    ∙ ap (λ (gs : List Gate). map (on_gate (flipped_or k flips)) (rotated r (directed k back (placed gs)))) c.gates-gates.ensures

@@ -1,8 +1,11 @@
 use Rattle.std.proofs.Common.{◌≡◌, length, take}
-use Rattle.workspace.specs.Matching.{members_of}
-use Rattle.workspace.proofs.Poses.{posed_gates}
+use Rattle.workspace.specs.Posing.{placed_of}
+use Rattle.workspace.proofs.Poses.{each_posed}
 use Rattle.workspace.proofs.posing.pose.Given as goal
 
--- the members so far are the first of the posed gates
-abbrev pub invariant-loop-place : goal.invariant-loop-place
-invariant-loop-place g l = (length l.members ≡ 8) × (members_of l.members l.place ≡ take l.place (posed_gates g.K.GateKind.means l.gates l.back l.turned l.flips))
+-- the gates so far are each posed
+abbrev pub invariant-loop-position : goal.invariant-loop-position
+invariant-loop-position g l = record {
+  long : length l.members ≡ 8;
+  front : placed_of (take l.position l.members) ≡ take l.position (each_posed g.K.GateKind.means l.gates l.back l.flips);
+}

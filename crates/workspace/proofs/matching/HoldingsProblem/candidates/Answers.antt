@@ -1,5 +1,6 @@
 use Rattle.std.proofs.Common.{◌≡◌, ℕ, suc, ◌+◌, ◌-◌, ◌<◌, ◌≤◌, true, not, ◌&&◌, ltb, List, ◌∷◌, length, get_or, drop, sym, ap, ◌∙◌, subst, ap₂, arith}
 use Rattle.std.proofs.lemmas.Bool.{lt-ltb, and_from, not_from_false}
+use Rattle.fixed_list.specs.Lists.{contents}
 use Rattle.gates.specs.declared.gate.Gate.{Gate}
 use Rattle.gates.specs.Lines.{bit}
 use Rattle.search.specs.Keys.{keyed}
@@ -10,7 +11,7 @@ use Rattle.workspace.specs.Holdings.{condition_of}
 use Rattle.workspace.specs.Matching.{frame_at}
 use Rattle.workspace.specs.Notes.{image_at, possible}
 use Rattle.workspace.specs.Proposals.{template_of}
-use Rattle.workspace.specs.Starts.{framed, movable}
+use Rattle.workspace.specs.Starts.{movable}
 use Rattle.workspace.proofs.KeyLevels.{next_of, number_at}
 use Rattle.workspace.proofs.KeyNexts.{template_is, pose_covers, line_below, line_new}
 use Rattle.workspace.proofs.KeyNotes.{last_is, line_possible, place_next}
@@ -45,7 +46,7 @@ returns-in-Some-checked_sub g c fits v rest e =
     let lines = ap (λ (x : TemplateMeaning). x.lines) (template_is k held key o n.begun (omega arith) (template_of c.in-Some.template.now) c.in-Some.ensures.1) in
     let long : length key ≡ 6 + i = omega arith in
     let inside : i < (get_or held.shelf o.number no_entry).template.lines = omega (arith, lines) in
-    let frame : framed c.args.start.now.frame ≡ frame_at gates o.first = fits.first.frame ∙ ap (frame_at gates) (number_at k held key o n.begun 0 (omega arith)) in
+    let frame : contents c.args.start.now.frame ≡ frame_at gates o.first = fits.first.frame ∙ ap (frame_at gates) (number_at k held key o n.begun 0 (omega arith)) in
     let below = line_below k held sound key v n i long inside in
     let can = line_possible k held g.met.S.Kind.GateKind.lawful sound key v n note (fits.whole (omega arith) o n.begun) few i c.named_places.ensures long inside in
     c.next_lines.ensures (omega (arith, c.lines.ensures, bounded.few_lines)) v (omega (arith, below, bounded.few_lines))
@@ -69,7 +70,7 @@ returns-in-Some-2 g c fits v rest e =
     c.lines-lines.ensures ∙ ap (λ (x : TemplateMeaning). x.lines) (template_is k held key o n.begun (omega arith) (template_of c.in-Some.template.now) c.in-Some.ensures.1) in
     let j = length key - (6 + c.lines-lines.result) in
     let long : length key ≡ 6 + e-lines + j = omega arith in
-    let frame : framed c.args.start.now.frame ≡ frame_at gates o.first = fits.first.frame ∙ ap (frame_at gates) (number_at k held key o n.begun 0 (omega arith)) in
+    let frame : contents c.args.start.now.frame ≡ frame_at gates o.first = fits.first.frame ∙ ap (frame_at gates) (number_at k held key o n.begun 0 (omega arith)) in
     let place : c.in-Some-checked_sub.line - c.lines-lines.result + 1 ≡ suc j = omega arith in
     let h = place_next k held g.met.S.Kind.GateKind.lawful sound key v n note (fits.whole (omega arith) o n.begun) j last long
     (c.last_distance-last.ensures ∙ ap (λ (l : ℕ). get_or (0 ∷ drop (6 + l) key) j 0) lines ∙ last_is k held key o n.begun j long) in

@@ -8,7 +8,7 @@ use Rattle.workspace.specs.Holdings.{condition_of}
 use Rattle.workspace.specs.Matching.{frame_at}
 use Rattle.workspace.specs.Notes.{Narrows}
 use Rattle.workspace.specs.Proposals.{template_of}
-use Rattle.workspace.specs.Starts.{IsSet, framed}
+use Rattle.workspace.specs.Starts.{IsSet}
 use Rattle.workspace.proofs.KeyLevels.{number_at}
 use Rattle.workspace.proofs.KeyNexts.{template_is}
 use Rattle.workspace.proofs.KeyNotes.{begun_before, last_read, line_small, lines_same, one_more, posed_fits, narrowed_fits, place_fits}
@@ -58,10 +58,10 @@ returns-else-last g c sound prefix v is started above six o b =
     let i = c.in-Some-checked_sub.behind - 1 in
     let lines = lines_same k held sound.sound key prefix v is o b (template_of c.in-Some.template.now) (omega arith) c.in-Some.ensures.1 in
     let last = last_read k held sound.sound key prefix v is o b i c.at-last.result (omega arith) c.at-last.ensures in
-    let frame : framed c.args.start.now.frame ≡ frame_at gates o.first = started.frame ∙ ap (frame_at gates) (number_at k held key o b 0 (omega arith)) in
+    let frame : contents c.args.start.now.frame ≡ frame_at gates o.first = started.frame ∙ ap (frame_at gates) (number_at k held key o b 0 (omega arith)) in
     let note = c.narrowed.result in
     let old = c.args.above.now in
     narrowed_fits k held sound.sound key prefix v is o b g.met.S.Kind.GateKind.lawful old note (above (omega (arith, one_more k held sound.sound key prefix v is o b)) o (begun_before k held sound.sound key prefix v is o b))
     i (omega arith) (omega (arith, lines)) c.narrowed.ensures.poses c.narrowed.ensures.chooses
     (let N : ℕ → List Gate → Type 0 = λ x gs. AllZip (Narrows k gs i x) (contents old.images) (contents note.images) in
-    subst (N v) frame (subst (λ (x : ℕ). N x (framed c.args.start.now.frame)) last (c.narrowed.ensures.reaches (omega arith))))
+    subst (N v) frame (subst (λ (x : ℕ). N x (contents c.args.start.now.frame)) last (c.narrowed.ensures.reaches (omega arith))))

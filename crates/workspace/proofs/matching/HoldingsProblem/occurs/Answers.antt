@@ -9,5 +9,5 @@ returns g c fits =
     let h = c.args.self.now in
     let k = g.S.Kind.GateKind.means in
     let held = condition_of g.S.Store.means h in
-    c.is_occurrence.ensures held.store.gates fits.first.frame fits.sound.sound.templates (omega (arith, c.lines.ensures, (g.S.Store.bounded h.store).few_lines))
+    c.is_occurrence.ensures held.store.gates (c.as_slice.ensures.is ∙ fits.first.frame) fits.sound.sound.templates (omega (arith, c.lines.ensures, (g.S.Store.bounded h.store).few_lines))
     ∙ ap (λ (n : ℕ). occurs_test k n held.store.gates held.shelf (keyed c.args.key.now)) c.lines.ensures
