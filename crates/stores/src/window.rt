@@ -74,7 +74,8 @@ impl<S: Store> Store for Window<S> {
     }
 
     fn read(&self, place: usize) -> Result<Gate, StoreRefusal> {
-        check_place(place, self.count())?;
+        let size = self.count();
+        check_place(place, size)?;
         self.below.read(self.first() + place)
     }
 
