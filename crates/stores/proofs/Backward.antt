@@ -2,7 +2,7 @@
 use Rattle.std.proofs.Common.{◌≡◌, ℕ, suc, ◌+◌, ◌-◌, ◌<◌, ◌≤◌, List, [], ◌∷◌, ◌++◌, map, reverse, length, get_or, take, drop, set, sym, refl, ap, ◌∙◌, ap₂, arith}
 use mathlib.Core.List.{reverse-cons}
 use Rattle.std.specs.List.{insert, remove}
-use Rattle.std.proofs.lemmas.List.{append_assoc, map-append, reverse-append, take-append-drop, drop_more, take_at, drop_at, set_at, set_split, length-drop}
+use Rattle.std.proofs.lemmas.List.{append_assoc, map-append, reverse-append, take-append-drop, drop_more, take_at, drop_at, set_at, set_split, get_or-map, get_or-reverse, length-drop, length-reverse}
 use Rattle.gates.specs.declared.gate.Gate.{Gate}
 use Rattle.gates.specs.Kinds.{KindMeaning}
 use Rattle.gates.specs.Cascades.{backward}
@@ -27,6 +27,9 @@ module _ (k : KindMeaning) where
       backward_both xs (x ∷ ys)
       ∙ ap (λ (r : List Gate). r ++ backward k xs) (ap (map k.inverse) (reverse-cons x ys) ∙ map-append k.inverse (reverse ys) (x ∷ []))
       ∙ append_assoc (backward k ys) (k.inverse x ∷ []) (backward k xs)
+
+  pub read_backward : (gs : List Gate) (p : ℕ) (d : Gate) → p < length gs → get_or (backward k gs) p d ≡ k.inverse (get_or gs (length gs - 1 - p) d)
+  read_backward gs p d lt = get_or-map k.inverse (reverse gs) p d d (omega (arith, length-reverse gs)) ∙ ap k.inverse (get_or-reverse gs p d lt)
 
   module _ (gs : List Gate) (p : ℕ) (d : Gate) (lt : p < length gs) where
     q : ℕ

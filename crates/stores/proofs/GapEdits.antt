@@ -1,8 +1,8 @@
 -- Lists around a gap: what moving the gap and editing at it leave.
-use Rattle.std.proofs.Common.{◌≡◌, ℕ, ◌+◌, ◌-◌, ◌<◌, ◌≤◌, ltb, List, ◌++◌, length, take, drop, set, sym, refl, ap, ◌∙◌, ap₂, arith}
-use Rattle.std.specs.List.{copy_within}
+use Rattle.std.proofs.Common.{◌≡◌, ℕ, suc, ◌+◌, ◌-◌, ◌<◌, ◌≤◌, ltb, List, ◌++◌, length, take, drop, set, sym, refl, ap, ◌∙◌, ap₂, arith}
+use Rattle.std.specs.List.{copy_within, remove}
 use Rattle.std.proofs.lemmas.List.Edits.{drop-paste, length-paste, take-paste}
-use Rattle.std.proofs.lemmas.List.{append_assoc, length-append, length-drop, length-set, length-take-le, drop_at, take-set-le, drop-set-lt, drop-drop, drop-set-add, drop-take, take-append-drop, take-append-le, take-take, set-append_left, set-append_right}
+use Rattle.std.proofs.lemmas.List.{append_assoc, length-append, length-drop, length-set, length-take-le, take_at, drop_at, take-set-le, drop-set-lt, drop-drop, drop-set-add, drop-take, take-append-drop, take-append-le, take-take, set-append_left, set-append_right}
 use Rattle.gates.specs.declared.gate.Gate.{Gate}
 use Rattle.std.proofs.lemmas.Bool.{cond_both, ltb-true, ltb-false}
 use Rattle.stores.specs.Memory.{around_gap, record_of, in_memory, GapMoved}
@@ -85,3 +85,20 @@ module _ (l : ℕ) (xs : List Gate) (f b p : ℕ) (within : f + b ≤ length xs)
       ∙ append_assoc (take f xs) (take k (drop from xs)) (drop k (drop from xs))
       ∙ ap (λ (r : List Gate). take f xs ++ r) (take-append-drop k (drop from xs) ∙ ap (λ (n : ℕ). drop n xs) (sym last)) in
       record { same = ap₂ (in_memory l) long list; sum = omega arith; long = long; on = refl }
+
+-- a gate that goes out behind the gap
+pub gap_removed : (xs : List Gate) (f b : ℕ) → f + suc b ≤ length xs → around_gap xs f b ≡ remove (around_gap xs f (suc b)) f
+gap_removed xs f b within =
+    let D = drop (length xs - suc b) xs in
+    let long = front_long xs f (suc b) within in
+    ap (λ (r : List Gate). take f xs ++ r)
+    (ap (λ (i : ℕ). drop i xs) (let e : length xs - b ≡ length xs - suc b + 1 = omega arith in e) ∙ sym (drop-drop 1 (length xs - suc b) xs))
+    ∙ sym (ap₂ ◌++◌ (take_at (take f xs) D f long)
+    (ap (λ (i : ℕ). drop i (take f xs ++ D)) (let e : suc f ≡ f + 1 = omega arith in e) ∙ sym (drop-drop 1 f (take f xs ++ D)) ∙ ap (drop 1) (drop_at (take f xs) D f long)))
+
+-- a record of the gap may hold anything
+pub gap_cleared : (xs : List Gate) (f b : ℕ) (y : Gate) → f + suc b ≤ length xs → around_gap (set xs (length xs - suc b) y) f b ≡ around_gap xs f b
+gap_cleared xs f b y within =
+    let i = length xs - suc b in
+    ap (λ (n : ℕ). take f (set xs i y) ++ drop (n - b) (set xs i y)) (length-set xs i y)
+    ∙ ap₂ ◌++◌ (take-set-le f xs i y (let h : f ≤ i = omega arith in h)) (drop-set-lt (length xs - b) xs i y (let h : i < length xs - b = omega arith in h))

@@ -36,6 +36,10 @@ module _ (m : StoreMeaning) (place : ℕ) where
   pub remove_ok : place < length m.gates → remove_outcome m place ≡ Ok (at m place, with_gates m (remove m.gates place))
   remove_ok lt = provided_true _ _ _ (lt-ltb place (length m.gates) lt)
 
+-- an answer to remove tells which gate stood at the place
+pub remove_told : (m : StoreMeaning) (place : ℕ) (g : Gate) → place < length m.gates → ◌≡◌ {A = Result Gate StoreRefusal} (Ok g) (answer (remove_outcome m place)) → g ≡ at m place
+remove_told m place g here told = let is : ◌≡◌ {A = Result Gate StoreRefusal} (Ok g) (Ok (at m place)) = told ∙ ap answer (remove_ok m place here) in cc
+
 -- an answer to read tells that the place is there, and which gate stands at it
 pub read_told : (m : StoreMeaning) (place : ℕ) (g : Gate) → ◌≡◌ {A = Result Gate StoreRefusal} (Ok g) (read_outcome m place) → (place < length m.gates) × (g ≡ at m place)
 read_told m place g told = by (ltb place (length m.gates)) refl told
