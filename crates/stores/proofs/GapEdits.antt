@@ -1,8 +1,8 @@
 -- Lists around a gap: what moving the gap and editing at it leave.
-use Rattle.std.proofs.Common.{◌≡◌, ℕ, suc, ◌+◌, ◌-◌, ◌<◌, ◌≤◌, ltb, List, [], ◌∷◌, ◌++◌, length, get_or, take, drop, set, sym, refl, ap, ◌∙◌, ap₂, arith}
-use Rattle.std.specs.List.{copy_within, insert, remove}
+use Rattle.std.proofs.Common.{◌≡◌, ℕ, suc, ◌+◌, ◌-◌, ◌<◌, ◌≤◌, ltb, List, ◌++◌, length, take, drop, set, sym, refl, ap, ◌∙◌, ap₂, arith}
+use Rattle.std.specs.List.{copy_within, remove}
 use Rattle.std.proofs.lemmas.List.Edits.{drop-paste, length-paste, take-paste}
-use Rattle.std.proofs.lemmas.List.{append_assoc, length-append, length-drop, length-set, length-take-le, take_at, drop_at, take-set-le, take_more_set, drop-set-lt, drop-drop, drop-set-add, drop-take, take-append-drop, take-append-le, take-take, get_or_append_left, get_or-append_right, get_or-take, get_or-drop, set-append_left, set-append_right}
+use Rattle.std.proofs.lemmas.List.{append_assoc, length-append, length-drop, length-set, length-take-le, take_at, drop_at, take-set-le, drop-set-lt, drop-drop, drop-set-add, drop-take, take-append-drop, take-append-le, take-take, set-append_left, set-append_right}
 use Rattle.gates.specs.declared.gate.Gate.{Gate}
 use Rattle.std.proofs.lemmas.Bool.{cond_both, ltb-true, ltb-false}
 use Rattle.stores.specs.Memory.{around_gap, record_of, in_memory, GapMoved}
@@ -14,15 +14,6 @@ module _ (xs : List Gate) (f b : ℕ) (within : f + b ≤ length xs) where
 
   pub around_long : length (around_gap xs f b) ≡ f + b
   around_long = length-append (take f xs) (drop (length xs - b) xs) ∙ omega (arith, front_long, length-drop (length xs - b) xs)
-
-  pub read_front : (p : ℕ) (d : Gate) → p < f → get_or (around_gap xs f b) p d ≡ get_or xs p d
-  read_front p d lt = get_or_append_left (take f xs) (drop (length xs - b) xs) d p (omega (arith, front_long)) ∙ get_or-take f xs p d lt
-
-  pub read_back : (p : ℕ) (d : Gate) → f ≤ p → p < f + b → get_or (around_gap xs f b) p d ≡ get_or xs (p + (length xs - (f + b))) d
-  read_back p d le lt =
-      get_or-append_right (take f xs) (drop (length xs - b) xs) f p d front_long le
-      ∙ get_or-drop (length xs - b) xs (p - f) d
-      ∙ ap (λ (i : ℕ). get_or xs i d) (let e : length xs - b + (p - f) ≡ p + (length xs - (f + b)) = omega arith in e)
 
   pub write_front : (p : ℕ) (y : Gate) → p < f → around_gap (set xs p y) f b ≡ set (around_gap xs f b) p y
   write_front p y lt =
@@ -37,15 +28,6 @@ module _ (xs : List Gate) (f b : ℕ) (within : f + b ≤ length xs) where
       ap (λ (n : ℕ). take f (set xs i y) ++ drop (n - b) (set xs i y)) (length-set xs i y)
       ∙ ap₂ ◌++◌ (take-set-le f xs i y (let h : f ≤ i = omega arith in h)) (ap (λ (z : ℕ). drop (length xs - b) (set xs z y)) far ∙ drop-set-add (length xs - b) xs (p - f) y)
       ∙ sym (set-append_right (take f xs) (drop (length xs - b) xs) f p y front_long le)
-
--- the record that holds a gate of the list
-pub record_within : (n f b p : ℕ) → p < f + b → f + b ≤ n → record_of n f b p < n
-record_within n f b p lt within = cond_both (ltb p f) p (p + (n - (f + b))) (λ x. x < n) (λ e. omega arith) (λ e. omega arith)
-
-pub read_at : (xs : List Gate) (f b : ℕ) → f + b ≤ length xs → (p : ℕ) (d : Gate) → p < f + b → get_or (around_gap xs f b) p d ≡ get_or xs (record_of (length xs) f b p) d
-read_at xs f b within p d lt =
-    cond_both (ltb p f) p (p + (length xs - (f + b))) (λ x. get_or (around_gap xs f b) p d ≡ get_or xs x d)
-    (λ e. read_front xs f b within p d (ltb-true p f e)) (λ e. read_back xs f b within p d (ltb-false p f e) lt)
 
 pub write_at : (xs : List Gate) (f b : ℕ) → f + b ≤ length xs → (p : ℕ) (y : Gate) → p < f + b → around_gap (set xs (record_of (length xs) f b p) y) f b ≡ set (around_gap xs f b) p y
 write_at xs f b within p y lt =
@@ -103,17 +85,6 @@ module _ (l : ℕ) (xs : List Gate) (f b p : ℕ) (within : f + b ≤ length xs)
       ∙ append_assoc (take f xs) (take k (drop from xs)) (drop k (drop from xs))
       ∙ ap (λ (r : List Gate). take f xs ++ r) (take-append-drop k (drop from xs) ∙ ap (λ (n : ℕ). drop n xs) (sym last)) in
       record { same = ap₂ (in_memory l) long list; sum = omega arith; long = long; on = refl }
-
--- a gate that comes in at the gap
-pub gap_inserted : (xs : List Gate) (f b : ℕ) (y : Gate) → f + b < length xs → around_gap (set xs f y) (f + 1) b ≡ insert (around_gap xs f b) f y
-gap_inserted xs f b y within =
-    let fits : f + b ≤ length xs = omega arith in
-    let here : f < length xs = omega arith in
-    let D = drop (length xs - b) xs in
-    ap (λ (n : ℕ). take (f + 1) (set xs f y) ++ drop (n - b) (set xs f y)) (length-set xs f y)
-    ∙ ap₂ ◌++◌ (take_more_set xs f y here) (drop-set-lt (length xs - b) xs f y (let h : f < length xs - b = omega arith in h))
-    ∙ append_assoc (take f xs) (y ∷ []) D
-    ∙ sym (ap₂ (λ (u v : List Gate). u ++ y ∷ v) (take_at (take f xs) D f (front_long xs f b fits)) (drop_at (take f xs) D f (front_long xs f b fits)))
 
 -- a gate that goes out behind the gap
 pub gap_removed : (xs : List Gate) (f b : ℕ) → f + suc b ≤ length xs → around_gap xs f b ≡ remove (around_gap xs f (suc b)) f

@@ -1,14 +1,14 @@
 -- Outcomes of a store's calls where nothing stands in their way, and lists after an edit.
 use Rattle.std.proofs.Common.{◌≡◌, ℕ, zero, suc, ◌<◌, ◌≤◌, Bool, true, false, cond, ltb, leb, List, [], ◌∷◌, length, take, set, Ok, Err, Result, sym, refl, ap, ◌∙◌, arith}
 use Rattle.std.specs.List.{insert, remove}
-use Rattle.std.proofs.lemmas.Bool.{ltb-true, leb-true, lt-ltb, le-leb, le-ltb, lt-leb}
+use Rattle.std.proofs.lemmas.Bool.{ltb-true, leb-true, lt-ltb, le-leb}
 use Rattle.gates.specs.declared.gate.Gate.{Gate}
 use Rattle.gates.specs.declared.gate.GateRefusal.{GateRefusal}
 use Rattle.gates.specs.declared.gate.GateRefusal.TheVariants.{NotWellFormed}
 use Rattle.gates.specs.Kinds.{KindMeaning, Formed}
 use Rattle.gates.specs.Refusals.{gate_outcome}
 use Rattle.stores.specs.declared.refusal.StoreRefusal.{StoreRefusal}
-use Rattle.stores.specs.declared.refusal.StoreRefusal.TheVariants.{Gate as RefusedGate, Full, NoSuchPlace}
+use Rattle.stores.specs.declared.refusal.StoreRefusal.TheVariants.{Full, NoSuchPlace}
 use Rattle.stores.specs.Stores.{StoreMeaning, Outcome, with_gates, provided, place_outcome, place_before_outcome, answer, after, at, read_outcome, overwrite_outcome, insert_outcome, remove_outcome}
 
 pub provided_true : {X : Type 0} (b : Bool) (e : StoreRefusal) (r : Result X StoreRefusal) → b ≡ true → provided b e r ≡ r
@@ -33,11 +33,12 @@ gate_told k lines g told = by (k.form lines g) told
     by false e = absurd (let z : ◌≡◌ {A = ℕ} 0 1 = cc in omega arith)
 
 module _ (m : StoreMeaning) (place : ℕ) where
-  pub read_ok : place < length m.gates → read_outcome m place ≡ Ok (at m place)
-  read_ok lt = provided_true _ _ _ (lt-ltb place (length m.gates) lt)
-
   pub remove_ok : place < length m.gates → remove_outcome m place ≡ Ok (at m place, with_gates m (remove m.gates place))
   remove_ok lt = provided_true _ _ _ (lt-ltb place (length m.gates) lt)
+
+-- an answer to remove tells which gate stood at the place
+pub remove_told : (m : StoreMeaning) (place : ℕ) (g : Gate) → place < length m.gates → ◌≡◌ {A = Result Gate StoreRefusal} (Ok g) (answer (remove_outcome m place)) → g ≡ at m place
+remove_told m place g here told = let is : ◌≡◌ {A = Result Gate StoreRefusal} (Ok g) (Ok (at m place)) = told ∙ ap answer (remove_ok m place here) in cc
 
 -- an answer to read tells that the place is there, and which gate stands at it
 pub read_told : (m : StoreMeaning) (place : ℕ) (g : Gate) → ◌≡◌ {A = Result Gate StoreRefusal} (Ok g) (read_outcome m place) → (place < length m.gates) × (g ≡ at m place)
@@ -57,33 +58,6 @@ module _ (k : KindMeaning) (m : StoreMeaning) (place : ℕ) (g : Gate) (formed :
 
   pub insert_ok : place ≤ length m.gates → length m.gates < m.capacity → insert_outcome k m place g ≡ Ok (tt, with_gates m (insert m.gates place g))
   insert_ok le lt = insert_asks le ∙ provided_true _ _ _ (lt-ltb (length m.gates) m.capacity lt)
-
-provided_false : {X : Type 0} (b : Bool) (e : StoreRefusal) (r : Result X StoreRefusal) → b ≡ false → provided b e r ≡ Err e
-provided_false b e r h = ap (λ (x : Bool). provided x e r) h
-
--- refusals
-module _ (m : StoreMeaning) (place : ℕ) where
-  pub read_past : length m.gates ≤ place → read_outcome m place ≡ Err NoSuchPlace
-  read_past le = provided_false _ _ _ (le-ltb place (length m.gates) le)
-
-  pub remove_past : length m.gates ≤ place → remove_outcome m place ≡ Err NoSuchPlace
-  remove_past le = provided_false _ _ _ (le-ltb place (length m.gates) le)
-
-  module _ (k : KindMeaning) (g : Gate) where
-    pub overwrite_past : length m.gates ≤ place → overwrite_outcome k m place g ≡ Err NoSuchPlace
-    overwrite_past le = provided_false _ _ _ (le-ltb place (length m.gates) le)
-
-    pub overwrite_unformed : place < length m.gates → k.form m.lines g ≡ false → overwrite_outcome k m place g ≡ Err (RefusedGate NotWellFormed)
-    overwrite_unformed lt no-form = provided_true _ _ _ (lt-ltb place (length m.gates) lt) ∙ provided_false _ _ _ no-form
-
-    pub insert_past : length m.gates < place → insert_outcome k m place g ≡ Err NoSuchPlace
-    insert_past lt = provided_false _ _ _ (lt-leb place (length m.gates) lt)
-
-    pub insert_unformed : place ≤ length m.gates → k.form m.lines g ≡ false → insert_outcome k m place g ≡ Err (RefusedGate NotWellFormed)
-    insert_unformed le no-form = provided_true _ _ _ (le-leb place (length m.gates) le) ∙ provided_false _ _ _ no-form
-
-    pub insert_full : place ≤ length m.gates → Formed k m.lines g → m.capacity ≤ length m.gates → insert_outcome k m place g ≡ Err Full
-    insert_full le formed full = provided_true _ _ _ (le-leb place (length m.gates) le) ∙ provided_true _ _ _ formed ∙ provided_false _ _ _ (le-ltb (length m.gates) m.capacity full)
 
 -- an insertion where only the capacity is left to ask
 abbrev pub unless_full : Bool → StoreMeaning → Outcome (Unit {0})

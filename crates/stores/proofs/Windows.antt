@@ -1,7 +1,7 @@
 -- Windows: what an edit inside leaves of the list between its outsides, and of these.
-use Rattle.std.proofs.Common.{◌≡◌, ℕ, zero, suc, ◌+◌, ◌-◌, ◌<◌, ◌≤◌, min, List, [], ◌∷◌, length, get_or, take, drop, set, refl, ap, ◌∙◌, ap₂, arith}
+use Rattle.std.proofs.Common.{◌≡◌, ℕ, zero, suc, ◌+◌, ◌-◌, ◌<◌, ◌≤◌, min, List, [], ◌∷◌, length, take, drop, set, refl, ap, ◌∙◌, ap₂, arith}
 use Rattle.std.specs.List.{insert, remove}
-use Rattle.std.proofs.lemmas.List.{length-take, length-drop, length-set, get_or-take, get_or-drop, drop-set-add, take-set-le, drop-set-lt}
+use Rattle.std.proofs.lemmas.List.{length-take, length-drop, length-set, drop-set-add, take-set-le, drop-set-lt}
 use Rattle.std.proofs.lemmas.List.Edits.{length-insert, length-remove}
 use Rattle.gates.specs.declared.gate.Gate.{Gate}
 use Rattle.stores.specs.Stores.{StoreMeaning, with_gates}
@@ -72,18 +72,8 @@ rewindow m m' start size long =
     ap₂ (λ (a b : ℕ). windowed a b m') first many
 
 module _ (m : StoreMeaning) (s n p : ℕ) (fits : s + n ≤ length m.gates) where
-  -- the window begins and ends within the list
-  pub whole_window : window s n m ≡ windowed s n m
-  whole_window =
-      let first : start_in m s ≡ s = omega arith in
-      let many : size_in m s n ≡ n = omega arith in
-      ap₂ (λ (a b : ℕ). windowed a b m) first many
-
   pub window_long : length (take n (drop s m.gates)) ≡ n
   window_long = omega (arith, length-take n (drop s m.gates), length-drop s m.gates)
-
-  pub window_at : (d : Gate) → p < n → get_or (take n (drop s m.gates)) p d ≡ get_or m.gates (s + p) d
-  window_at d lt = get_or-take n (drop s m.gates) p d lt ∙ get_or-drop s m.gates p d
 
   pub window_set : (y : Gate) → p < n → window s n (with_gates m (set m.gates (s + p) y)) ≡ with_gates (windowed s n m) (set (take n (drop s m.gates)) p y)
   unfolding parts

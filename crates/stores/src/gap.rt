@@ -127,8 +127,7 @@ impl<K: GateKind> Store for GapStore<'_, K> {
     {
         let gate = self.read(place)?;
         self.moved = self.move_gap(place);
-        let freed = self.records.len() - self.back;
-        self.records[freed] = Gate::BLANK;
+        self.records[self.records.len() - self.back] = Gate::BLANK;
         self.back -= 1;
         Ok(gate)
     }

@@ -74,7 +74,8 @@ impl<S: Store> Store for Window<S> {
     }
 
     fn read(&self, place: usize) -> Result<Gate, StoreRefusal> {
-        check_place(place, self.count())?;
+        let size = self.count();
+        check_place(place, size)?;
         self.below.read(self.first() + place)
     }
 
@@ -93,10 +94,10 @@ impl<S: Store> Store for Window<S> {
             return Err(StoreRefusal::Full);
         }
         let first = self.first();
-        self.below.insert(first + place, gate)?;
+        let answer = self.below.insert(first + place, gate);
         self.start = first;
         self.size = size + 1;
-        Ok(())
+        answer
     }
 
     fn remove(&mut self, place: usize) -> Result<Gate, StoreRefusal> {

@@ -1,13 +1,13 @@
 use Rattle.std.proofs.Common.{ℕ, ◌+◌, ◌<◌, ◌≤◌, length, sym, ap, ◌∙◌, ap₂, arith}
 use Rattle.gates.specs.Kinds.{Formed}
-use Rattle.stores.specs.Stores.{after, insert_outcome}
+use Rattle.stores.specs.Stores.{answer, after, insert_outcome}
 use Rattle.stores.specs.Mounts.{window, windowed, start_in, size_in}
 use Rattle.stores.proofs.Windows.{window_long, window_inserted}
 use Rattle.stores.proofs.Outcomes.{place_before_told, gate_told, insert_ok}
 use Rattle.stores.proofs.window.WindowStore.insert.Goals as goal
 
-pub returns-clause-leaves : goal.returns-clause-leaves
-returns-clause-leaves g c =
+pub returns : goal.returns
+returns g c =
     let k = g.S.Kind.GateKind.means in
     let x = c.args.self.now in
     let m = g.S.Store.means x.below in
@@ -23,7 +23,11 @@ returns-clause-leaves g c =
     let room : length m.gates < m.capacity = omega (arith, c.if-count-capacity.false, c.count.ensures, c.capacity.ensures) in
     let below = insert_ok k m (s + p) y formed (omega (arith, le, fits)) room in
     let above = insert_ok k (windowed s n m) p y formed (omega (arith, le, long)) (omega (arith, room, long, fits)) in
-    ap₂ (λ (u v : ℕ). window u (v + 1) (g.S.Store.means c.insert.new.self)) first (c.count-size.ensures ∙ long)
-    ∙ ap (window s (n + 1)) (c.in_ok-insert.ensures.leaves ∙ ap (λ (i : ℕ). after m (insert_outcome k m (i + p) y)) first ∙ ap (after m) below)
-    ∙ window_inserted m s n p fits y le
-    ∙ sym (ap (after (windowed s n m)) above)
+    record {
+      answers = c.insert-answer.ensures.answers ∙ ap (λ (i : ℕ). answer (insert_outcome k m (i + p) y)) first ∙ ap answer below ∙ sym (ap answer above);
+      leaves =
+          ap₂ (λ (u v : ℕ). window u (v + 1) (g.S.Store.means c.insert-answer.new.self)) first (c.count-size.ensures ∙ long)
+          ∙ ap (window s (n + 1)) (c.insert-answer.ensures.leaves ∙ ap (λ (i : ℕ). after m (insert_outcome k m (i + p) y)) first ∙ ap (after m) below)
+          ∙ window_inserted m s n p fits y le
+          ∙ sym (ap (after (windowed s n m)) above);
+    }
