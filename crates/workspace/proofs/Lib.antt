@@ -1,4 +1,3 @@
-pub mod Fronts
 pub mod Placing
 pub mod Extending
 pub mod Replacing
