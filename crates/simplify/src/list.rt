@@ -16,6 +16,7 @@ impl List {
     // Reads the gates that a store shows.
     pub fn of<S: Store>(store: &S) -> Result<List, StoreRefusal> {
         let mut gates = FixedList::new(Gate::default());
+        // A store is read place by place: it need not have its gates in a row.
         for place in 0..store.count().min(MOST) {
             let _ = gates.push(store.read(place)?);
         }

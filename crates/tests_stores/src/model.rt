@@ -62,7 +62,7 @@ impl Model {
         self.list.len()
     }
 
-    // Overwriting a place: 9, then 2.
+    // Overwriting a place: refused for the place, then for the gate.
     pub fn overwrite<K: TestKind>(&mut self, place: usize, gate: Gate) -> Result<(), StoreRefusal> {
         if place >= self.count() {
             return Err(StoreRefusal::NoSuchPlace);
@@ -74,7 +74,7 @@ impl Model {
         Ok(())
     }
 
-    // Inserting before a place: 9, then 2, then 3.
+    // Inserting before a place: refused for the place, then for the gate, then where the list is full.
     pub fn insert<K: TestKind>(&mut self, place: usize, gate: Gate) -> Result<(), StoreRefusal> {
         if place > self.count() {
             return Err(StoreRefusal::NoSuchPlace);
@@ -91,7 +91,7 @@ impl Model {
         Ok(())
     }
 
-    // Removing a place: the gate, or 9.
+    // Removing a place: the gate, or refused for the place.
     pub fn remove(&mut self, place: usize) -> Result<Gate, StoreRefusal> {
         self.list.remove(place).ok_or(StoreRefusal::NoSuchPlace)
     }
