@@ -1,7 +1,7 @@
 -- The chosen gates of a frame, step by step.
 use Rattle.std.proofs.Common.{◌≡◌, ℕ, zero, suc, ◌+◌, ◌<◌, ◌≤◌, min, Bool, true, false, ◌||◌, eqb, ltb, leb, ◌⊎◌, List, [], ◌∷◌, length, get_or, drop, sym, refl, ap, ◌∙◌, inl, inr, arith}
 use Rattle.std.specs.List.{IsAllAdjacentAnswer}
-use Rattle.std.proofs.lemmas.List.{at_drop_more, at_drop_all}
+use Rattle.std.proofs.lemmas.List.{at_drop_more}
 use Rattle.std.proofs.lemmas.Bool.{cases_lt, cases_eq, lt-ltb, ltb-true, le-leb, lt-leb, eq-eqb, ne_eqb, and_from, and_left, and_right}
 use Rattle.gates.specs.Lines.{width, bit}
 use Rattle.gates.specs.Controls.{with_member}
@@ -63,10 +63,3 @@ chosen_more ds j set l new inside before low is i lt =
     shuffle true false c = refl
     shuffle false true c = refl
     shuffle false false c = refl
-
-pub chosen_all : (ds : List ℕ) (j set : ℕ) → length ds ≤ j → ChosenSoFar ds j set → (i : ℕ) → i < 32 → bit set i ≡ has_number_lem ds i
-chosen_all ds j set end done i lt = sym (or_false (bit set i)) ∙ ap (λ (b : Bool). bit set i || b) (sym (at_drop_all (λ xs. has_number_lem xs i) ds j end)) ∙ done i lt
-  where
-    or_false : (b : Bool) → (b || false) ≡ b
-    or_false true = refl
-    or_false false = refl

@@ -50,8 +50,5 @@ module _ (table : List ℕ) (i : ℕ) (lt : i < length table) where
   rest_is : has_number_lem (take (length table - (i + 1)) (drop (i + 1) table)) (get_or table i 0) ≡ has_number_lem (drop (i + 1) table) (get_or table i 0)
   rest_is = ap (λ (xs : List ℕ). has_number_lem xs (get_or table i 0)) (take_rest table (i + 1))
 
-  pub distinct_more : false ≡ has_number_lem (take (length table - (i + 1)) (drop (i + 1) table)) (get_or table i 0) → distinct (drop (i + 1) table) ≡ distinct (drop i table)
-  distinct_more e = ap (λ (b : Bool). not b && distinct (drop (i + 1) table)) (e ∙ rest_is) ∙ sym (at_drop_more distinct table i 0 lt)
-
   pub distinct_fails : true ≡ has_number_lem (take (length table - (i + 1)) (drop (i + 1) table)) (get_or table i 0) → false ≡ distinct (drop i table)
   distinct_fails e = ap (λ (b : Bool). not b && distinct (drop (i + 1) table)) (e ∙ rest_is) ∙ sym (at_drop_more distinct table i 0 lt)

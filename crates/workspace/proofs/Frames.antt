@@ -1,8 +1,8 @@
 -- Frames: how one is loaded, and the gates at the places of an occurrence in it.
-use Rattle.std.proofs.Common.{◌≡◌, ℕ, zero, suc, ◌+◌, ◌-◌, ◌<◌, ◌≤◌, min, Bool, cond, ◌⊎◌, List, [], ◌∷◌, map, length, get_or, take, drop, Ok, Err, Result, sym, ap, ◌∙◌, inl, inr, arith}
+use Rattle.std.proofs.Common.{◌≡◌, ℕ, zero, suc, ◌+◌, ◌-◌, ◌<◌, ◌≤◌, min, Bool, cond, ◌⊎◌, List, [], ◌∷◌, length, get_or, take, drop, Ok, Err, Result, sym, ap, ◌∙◌, inl, inr, arith}
 use Rattle.std.specs.Result.{result_unwrap_or}
 use Rattle.std.proofs.ByRecursion.{All-get_or}
-use Rattle.std.proofs.lemmas.List.{take_all, get_or-drop, get_or-take, get_or-map, length-drop, length-take}
+use Rattle.std.proofs.lemmas.List.{take_all, get_or-drop, get_or-take, length-drop, length-take}
 use Rattle.std.proofs.lemmas.Bool.{cases_lt, lt-ltb}
 use Rattle.gates.specs.declared.gate.Gate.{Gate}
 use Rattle.gates.specs.Controls.{gate}
@@ -56,13 +56,6 @@ rising_less r (x ∷ xs) h (suc i) (suc j) l lt = rising_less (suc x) xs h.1 i j
 -- the distance of the j-th place of an occurrence from its first
 abbrev pub distance : Occurrence → ℕ → ℕ
 distance o j = get_or (places o) j 0 - o.first
-
-pub distance_first : (o : Occurrence) → distance o 0 ≡ 0
-distance_first o = omega arith
-
--- the numbers of a key behind the table are the distances of the later places
-pub key_distance : (o : Occurrence) (j : ℕ) → j < length o.later → get_or (map (λ q. q - o.first) o.later) j 0 ≡ distance o (suc j)
-key_distance o j l = get_or-map (λ q. q - o.first) o.later j 0 0 l
 
 module _ (k : KindMeaning) (n : ℕ) (gates : List Gate) (shelf : List EntryMeaning) (o : Occurrence) (is : OccursAs k n gates shelf o) where
   pub place_from : (j : ℕ) → j < length (places o) → o.first ≤ get_or (places o) j 0

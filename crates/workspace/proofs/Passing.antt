@@ -1,8 +1,8 @@
 -- Chosen gates that move to the front, gate by gate.
-use Rattle.std.proofs.Common.{◌≡◌, ℕ, suc, ◌+◌, ◌<◌, ◌≤◌, Bool, true, false, cond, not, ◌&&◌, ◌||◌, List, [], ◌∷◌, ◌++◌, length, get_or, take, drop, sym, refl, ap, ◌∙◌, ap₂, arith}
+use Rattle.std.proofs.Common.{◌≡◌, ℕ, suc, ◌+◌, ◌<◌, Bool, true, false, cond, not, ◌&&◌, ◌||◌, List, [], ◌∷◌, ◌++◌, length, get_or, take, drop, sym, refl, ap, ◌∙◌, ap₂, arith}
 use mathlib.Core.Path.{fun_ext}
 use Rattle.std.specs.List.{list_all, enumerate_from}
-use Rattle.std.proofs.lemmas.List.{length-take, take_more, at_drop_more, at_drop_all}
+use Rattle.std.proofs.lemmas.List.{length-take, take_more, at_drop_more}
 use Rattle.gates.specs.declared.gate.Gate.{Gate}
 use Rattle.gates.specs.Kinds.{KindMeaning}
 use Rattle.gates.specs.Cascades.{picked}
@@ -76,9 +76,6 @@ module _ (k : KindMeaning) (c : ℕ → Bool) (gates : List Gate) where
 
   pub left_fails : (d : ℕ) → d < length gates → false ≡ (not (c d) || passes k (unchosen c (take d gates)) (get_or gates d no_gate)) → false ≡ left d
   left_fails d lt is = ap (λ (b : Bool). b && left (d + 1)) is ∙ sym (left_next d lt)
-
-  pub left_all : (d : ℕ) → length gates ≤ d → true ≡ left d
-  left_all d le = sym (at_drop_all (moves_front k (λ i. c (d + i)) (unchosen c (take d gates))) gates d le)
 
 -- places count only as far as there are gates
 pub moves_same : (k : KindMeaning) (c d : ℕ → Bool) (passed gates : List Gate) → ((i : ℕ) → i < length gates → c i ≡ d i) → moves_front k c passed gates ≡ moves_front k d passed gates

@@ -37,17 +37,7 @@ module _ (k : KindMeaning) (n : ℕ) (gates : List Gate) (shelf : List EntryMean
       direction true = refl
       direction false = refl
 
-  -- a key that occurs is on the shelf, and can be read
-  pub occurring_listed : (key : List ℕ) → length shelf ≤ get_or key 1 0 → false ≡ occurs_test k n gates shelf key
-  occurring_listed key past = at (occurs_test k n gates shelf key) refl
-    where
-      at : (b : Bool) → occurs_test k n gates shelf key ≡ b → false ≡ occurs_test k n gates shelf key
-      at false e = sym e
-      at true e =
-          let s = (decides_occurrences k n gates shelf key).0 e in
-          let same : get_or key 1 0 ≡ s.occurrence.number = ap (λ (ks : List ℕ). get_or ks 1 0) s.named in
-          absurd (let z : ⊥ = omega (arith, s.rules.listed) in z)
-
+  -- a key that occurs can be read
   occurring_readable : AllByRecursion (λ (e : EntryMeaning). MeetsRules k e.template) shelf → (key : List ℕ) (l : ℕ) → (get_or shelf (get_or key 1 0) no_entry).template.lines ≡ l → readable l key ≡ false
       → false ≡ occurs_test k n gates shelf key
   occurring_readable meets key l lines un = at (occurs_test k n gates shelf key) refl

@@ -20,7 +20,7 @@ use Rattle.workspace.specs.Posing.{placed_of}
 abbrev pub added_of : Addition → Added
 added_of a = record { line = a.line; sign = a.sign; group = a.group }
 
--- what a line is answered that asks for this
+-- the answer for a line that asks for this
 abbrev pub answer_of : ℕ → Asked → Result (Option Addition) NoGroup
 answer_of l nothing = Ok None
 answer_of l (control_on sign group) = Ok (Some record { line = l; sign = sign; group = group })

@@ -18,7 +18,7 @@ pub(crate) struct Addition {
     pub(crate) group: usize,
 }
 
-// What a line asks for, no group can give.
+// Why a line is refused: no group can give what it asks for.
 #[derive(Clone, Copy)]
 pub(crate) struct NoGroup {}
 

@@ -40,6 +40,7 @@ pub(crate) fn decode(lines: u8, key: &Key) -> Option<Named>
     ensures { named_of result ≡ (if readable lines (keyed key.now) then Some (spelled lines (keyed key.now)) else None) }
 {
     let lines = usize::from(lines);
+    // The third number is 8 less the number of places.
     let [first, number, share, back, rotation, flips, rest @ ..] = key.as_slice() else {
         return None;
     };
