@@ -24,9 +24,6 @@ module _ (k : KindMeaning) (c : Condition) (prefix : List ℕ) (o : Occurrence) 
   pub number_is : 2 ≤ length prefix → get_or prefix 1 0 ≡ o.number
   number_is l = number_at k c prefix o b 1 (omega arith)
 
-  pub number_listed : 2 ≤ length prefix → get_or prefix 1 0 < length c.shelf
-  number_listed l = omega (arith, number_is l, b.rules.listed)
-
   -- the template that the prefix numbers is the occurrence's
   pub template_is : 2 ≤ length prefix → (t : TemplateMeaning) → t ≡ (get_or c.shelf (get_or prefix 1 0) no_entry).template → t ≡ template_on c.shelf o
   template_is l t e = e ∙ ap (λ (i : ℕ). (get_or c.shelf i no_entry).template) (number_is l)
