@@ -47,6 +47,10 @@ module _ (k : KindMeaning) (c : Condition) (prefix : List ℕ) (o : Occurrence) 
     long_is l = omega (arith, few_is l, key_long k c o b.rules, share_is l, b.rules.within, meets_rules_lem.size.1)
 
 module _ (k : KindMeaning) (c : Condition) (sound : Sound k c) (prefix : List ℕ) where
+  -- no key that begins so with a number of no template passes
+  pub unlisted : 2 ≤ length prefix → length c.shelf ≤ get_or prefix 1 0 → (v : ℕ) (rest : List ℕ) → occurs_in_test k c (prefix ++ v ∷ rest) ≡ true → ⊥
+  unlisted l past v rest e = let n = next_of k c prefix v rest e in let z : ⊥ = omega (arith, number_listed k c prefix n.o n.begun l) in z
+
   -- a key as long as its third number says is whole
   pub no_longer : 3 ≤ length prefix → (t : TemplateMeaning) → t ≡ (get_or c.shelf (get_or prefix 1 0) no_entry).template → 13 + t.lines ≤ length prefix + get_or prefix 2 0
       → (v : ℕ) (rest : List ℕ) → occurs_in_test k c (prefix ++ v ∷ rest) ≡ true → ⊥
@@ -85,6 +89,9 @@ module _ (k : KindMeaning) (c : Condition) (sound : Sound k c) (prefix : List �
 
   at_level : (i : ℕ) → length prefix ≡ i → v ≡ get_or (key_of o) i 0
   at_level i is = sym (ap (λ (x : ℕ). get_or (key_of o) x 0) (sym is) ∙ n.is)
+
+  pub next_number : length prefix ≡ 1 → v < length c.shelf
+  next_number is = omega (arith, at_level 1 is, n.begun.rules.listed)
 
   -- the next number is 8 - k, and k is more than half of the size and no more than it
   pub next_share : length prefix ≡ 2 → (t : TemplateMeaning) → t ≡ e → (v < 8) × ((ltb v 8 && (ltb (size t) (2 * (8 - v)) && leb (8 - v) (size t))) ≡ true)

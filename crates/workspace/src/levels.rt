@@ -11,7 +11,6 @@ ghost use Rattle.workspace.specs.TurnTests.{has_number_lem};
 use super::Template;
 use super::named::BEFORE_MAP;
 use super::notes::{Image, Note};
-use super::noting::narrowed_set;
 use super::numbers::numbers_where;
 use super::start::{Start, eligible};
 use super::template::{MOST_GATES, MOST_LINES};
@@ -66,10 +65,10 @@ fn is_mapped(key: &Key, x: u8) -> bool
 }
 
 // Whether the image of the gate can still stand somewhere, where line x is the image of the line.
-fn can_still_stand<K: GateKind>(start: &Start<K>, image: &Image, line: u8, x: u8) -> bool
-    ensures { x < 32 → result ≡ some_of image.now.reached (can_stand K.means (contents start.now.frame) image.now.member.gate line x) }
+fn can_still_stand<K: GateKind>(start: &Start<K>, image: Image, line: u8, x: u8) -> bool
+    ensures { x < 32 → result ≡ some_of image.reached (can_stand K.means (contents start.now.frame) image.member.gate line x) }
 {
-    narrowed_set::<K>(start, image.reached, image.member.gate, line, x) != 0
+    image.narrowed::<K>(start, line, x).reached != 0
 }
 
 // Whether each of the first few gates can still stand somewhere, where line x is the image of the line.
@@ -80,7 +79,7 @@ fn is_possible<K: GateKind>(start: &Start<K>, note: &Note, few: usize, line: u8,
         .as_slice()
         .iter()
         .take(few)
-        .all(|image| can_still_stand::<K>(start, image, line, x))
+        .all(|image| can_still_stand::<K>(start, *image, line, x))
 }
 
 // The lines that can be the image of the line: those that are none yet and leave each of the first few gates somewhere to stand.

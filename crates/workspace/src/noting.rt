@@ -12,8 +12,7 @@ use super::Template;
 use super::notes::{Image, NO_IMAGE, Note};
 use super::posing::pose;
 use super::start::{Start, role_set};
-use fixed_list::FixedList;
-use gates::{Gate, GateKind, LineSet};
+use gates::{GateKind, LineSet};
 use search::candidates;
 
 // All distances but that of the first place itself.
@@ -42,17 +41,17 @@ pub(crate) fn posed_note<K: GateKind>(
     Note { images, chosen: 1 }
 }
 
-// The distances of the set at which the image of the gate can stand, where line x is the image of its line.
-pub(crate) fn narrowed_set<K: GateKind>(
-    start: &Start<K>,
-    set: u64,
-    gate: Gate,
-    line: u8,
-    x: u8,
-) -> u64
-    ensures { x < 32 → IsSet result (λ d. bit set d && can_stand K.means (contents start.now.frame) gate line x d) }
-{
-    set & role_set::<K>(start, gate, line, x)
+impl Image {
+    // The image with those of its distances at which it can stand, where line x is the image of the line.
+    pub(crate) fn narrowed<K: GateKind>(self, start: &Start<K>, line: u8, x: u8) -> Image
+        ensures keeps { result.member ≡ self.member }
+        ensures reaches { x < 32 → IsSet result.reached (λ d. bit self.reached d && can_stand K.means (contents start.now.frame) self.member.gate line x d) }
+    {
+        Image {
+            reached: self.reached & role_set::<K>(start, self.member.gate, line, x),
+            ..self
+        }
+    }
 }
 
 // The note after line x became the image of the line.
@@ -61,13 +60,9 @@ pub(crate) fn narrowed<K: GateKind>(start: &Start<K>, above: &Note, line: u8, x:
     ensures reaches { x < 32 → AllZip (Narrows K.means (contents start.now.frame) line x) (contents above.now.images) (contents result.images) }
     ensures chooses { result.chosen ≡ above.now.chosen }
 {
-    let images = above.images.map(
-        NO_IMAGE,
-        |image| Image {
-            reached: narrowed_set::<K>(start, image.reached, image.member.gate, line, x),
-            ..image
-        },
-    );
+    let images = above
+        .images
+        .map(NO_IMAGE, |image| image.narrowed::<K>(start, line, x));
     Note { images, ..*above }
 }
 

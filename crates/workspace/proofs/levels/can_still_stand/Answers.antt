@@ -1,3 +1,4 @@
+use Rattle.std.proofs.Common.{arith}
 use Rattle.fixed_list.specs.Lists.{contents}
 use Rattle.workspace.specs.Notes.{can_stand}
 use Rattle.workspace.proofs.Standing.{some_of_it}
@@ -5,5 +6,5 @@ use Rattle.workspace.proofs.levels.can_still_stand.Goals as goal
 
 pub returns : goal.returns
 returns g c below =
-    let image = c.args.image.now in
-    some_of_it image.reached c.narrowed_set.result (can_stand g.K.GateKind.means (contents c.args.start.now.frame) image.member.gate c.args.line c.args.x) (c.narrowed_set.ensures below) c.narrowed_set.type_inv
+    let image = c.args.image in
+    some_of_it image.reached c.narrowed.result.reached (can_stand g.K.GateKind.means (contents c.args.start.now.frame) image.member.gate c.args.line c.args.x) (c.narrowed.ensures.reaches below) (omega arith)

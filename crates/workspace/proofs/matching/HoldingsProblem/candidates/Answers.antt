@@ -13,9 +13,21 @@ use Rattle.workspace.specs.Notes.{image_at, possible}
 use Rattle.workspace.specs.Proposals.{template_of}
 use Rattle.workspace.specs.Starts.{movable}
 use Rattle.workspace.proofs.KeyLevels.{next_of, number_at}
-use Rattle.workspace.proofs.KeyNexts.{template_is, pose_covers, line_below, line_new}
+use Rattle.workspace.proofs.KeyNexts.{next_number, template_is, unlisted, pose_covers, line_below, line_new}
 use Rattle.workspace.proofs.KeyNotes.{last_is, line_possible, place_next}
 use Rattle.workspace.proofs.matching.HoldingsProblem.candidates.Goals as goal
+
+pub returns-then-len-eq1 : goal.returns-then-len-eq1
+returns-then-len-eq1 g c fits v rest e =
+    let k = g.S.Kind.GateKind.means in
+    let held = condition_of g.S.Store.means c.args.self.now in
+    let key = keyed c.args.key.now in
+    let below = next_number k held fits.sound.sound key v (next_of k held key v rest e) (omega arith) in
+    c.numbers_below.ensures v (omega (arith, below, c.count.ensures.is, c.count.ensures.few)) ∙ lt-ltb v c.count.result (omega (arith, below, c.count.ensures.is))
+
+pub returns-in_default : goal.returns-in_default
+returns-in_default g c fits v rest e =
+    absurd (unlisted g.S.Kind.GateKind.means (condition_of g.S.Store.means c.args.self.now) fits.sound.sound (keyed c.args.key.now) (omega (arith, fits.some)) c.in_default.ensures v rest e)
 
 pub returns-in-None : goal.returns-in-None
 returns-in-None g c fits v rest e =

@@ -1,0 +1,9 @@
+use Rattle.std.proofs.Common.{Bool, ◌&&◌, ap, ◌∙◌}
+use Rattle.gates.specs.Lines.{bit}
+use Rattle.gates.proofs.Masks.{bit-bit_and}
+use Rattle.workspace.proofs.notes.Image.narrowed.Goals as goal
+
+pub returns-clause-reaches : goal.returns-clause-reaches
+returns-clause-reaches g c below i l =
+    let reached = c.args.self.reached in
+    bit-bit_and reached c.role_set.result i ∙ ap (λ (b : Bool). bit reached i && b) (c.role_set.ensures below i l)
