@@ -104,8 +104,8 @@ impl<K: GateKind> Store for GapStore<'_, K> {
     }
 
     fn insert(&mut self, place: usize, gate: Gate) -> Result<(), StoreRefusal>
-        ensures answers { result ≡ answer (insert_outcome K.GateKind.means (gap_held self.old) place gate) }
-        ensures leaves { gap_held self.new ≡ after (gap_held self.old) (insert_outcome K.GateKind.means (gap_held self.old) place gate) }
+        ensures answers { result ≡ answer (insert_outcome K.means (gap_held self.old) place gate) }
+        ensures leaves { gap_held self.new ≡ after (gap_held self.old) (insert_outcome K.means (gap_held self.old) place gate) }
         ensures moves { self.new.moved ≡ moved_by result (apart self.old.front place) self.old.moved }
     {
         let count = self.count();

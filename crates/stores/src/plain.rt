@@ -63,8 +63,8 @@ impl<K: GateKind> Store for PlainStore<'_, K> {
     }
 
     fn overwrite(&mut self, place: usize, gate: Gate) -> Result<(), StoreRefusal>
-        ensures answers { result ≡ answer (overwrite_outcome K.GateKind.means (plain_held self.old) place gate) }
-        ensures leaves { plain_held self.new ≡ after (plain_held self.old) (overwrite_outcome K.GateKind.means (plain_held self.old) place gate) }
+        ensures answers { result ≡ answer (overwrite_outcome K.means (plain_held self.old) place gate) }
+        ensures leaves { plain_held self.new ≡ after (plain_held self.old) (overwrite_outcome K.means (plain_held self.old) place gate) }
         ensures behind { drop self.old.count self.new.records.now ≡ drop self.old.count self.old.records.now }
     {
         check_place(place, self.count)?;
@@ -74,8 +74,8 @@ impl<K: GateKind> Store for PlainStore<'_, K> {
     }
 
     fn insert(&mut self, place: usize, gate: Gate) -> Result<(), StoreRefusal>
-        ensures answers { result ≡ answer (insert_outcome K.GateKind.means (plain_held self.old) place gate) }
-        ensures leaves { plain_held self.new ≡ after (plain_held self.old) (insert_outcome K.GateKind.means (plain_held self.old) place gate) }
+        ensures answers { result ≡ answer (insert_outcome K.means (plain_held self.old) place gate) }
+        ensures leaves { plain_held self.new ≡ after (plain_held self.old) (insert_outcome K.means (plain_held self.old) place gate) }
         ensures behind { drop (self.old.count + 1) self.new.records.now ≡ drop (self.old.count + 1) self.old.records.now }
     {
         let count = self.count;

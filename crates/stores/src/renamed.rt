@@ -17,7 +17,7 @@ pub struct Renamed<S> {
 
 // Refuses a line table that is no rearrangement of the store's lines.
 pub fn check_table<S: Store>(below: &S, table: &[u8]) -> Result<(), StoreRefusal>
-    ensures { result ≡ table_outcome (S.Store.means below.now) table.now }
+    ensures { result ≡ table_outcome (S.means below.now) table.now }
 {
     if is_rearrangement(table, below.lines()) {
         Ok(())
@@ -30,7 +30,7 @@ impl<S: Store> Renamed<S> {
     // The mount on a store; where the check refuses the table, it shows the list unaltered.
     pub fn new(below: S, table: &[u8]) -> Renamed<S>
         ensures holds { result.below ≡ below }
-        ensures shows { renamed_view S.Kind.GateKind.means (contents result.table.new) (S.Store.means result.below) ≡ renamed_made S.Kind.GateKind.means table.now (S.Store.means below) }
+        ensures shows { renamed_view S.Kind.means (contents result.table.new) (S.means result.below) ≡ renamed_made S.Kind.means table.now (S.means below) }
     {
         let table = Rearrangement::new(table, below.lines());
         Renamed { below, table }
@@ -45,7 +45,7 @@ impl<S: Store> Renamed<S> {
 
     // A gate on the new lines of a table, where the table is for as many lines as the store below has; else the gate itself.
     fn through(&self, table: &[u8], gate: Gate) -> Gate
-        ensures { result ≡ shown_gate S.Kind.GateKind.means table.now (S.Store.means self.now.below).lines gate }
+        ensures { result ≡ shown_gate S.Kind.means table.now (S.means self.now.below).lines gate }
     {
         if table.len() == self.below.lines() as usize {
             S::Kind::renamed(gate, table)
@@ -58,9 +58,9 @@ impl<S: Store> Renamed<S> {
 impl<S: Store> Store for Renamed<S> {
     type Kind = S::Kind;
 
-    ghost means = { λ s. renamed_view S.Kind.GateKind.means (contents s.table.new) (S.Store.means s.below) };
+    ghost means = { λ s. renamed_view S.Kind.means (contents s.table.new) (S.means s.below) };
 
-    ghost bounded = { λ s. renamed_bounded S.Kind.GateKind.means (contents s.table.new) (S.Store.means s.below) (S.Store.bounded s.below) };
+    ghost bounded = { λ s. renamed_bounded S.Kind.means (contents s.table.new) (S.means s.below) (S.bounded s.below) };
 
     fn lines(&self) -> u8 {
         self.below.lines()

@@ -32,9 +32,9 @@ impl<S: Store> Reversed<S> {
 impl<S: Store> Store for Reversed<S> {
     type Kind = S::Kind;
 
-    ghost means = { λ s. reversed S.Kind.GateKind.means (S.Store.means s.below) };
+    ghost means = { λ s. reversed S.Kind.means (S.means s.below) };
 
-    ghost bounded = { λ s. reversed_bounded S.Kind.GateKind.means (S.Store.means s.below) (S.Store.bounded s.below) };
+    ghost bounded = { λ s. reversed_bounded S.Kind.means (S.means s.below) (S.bounded s.below) };
 
     fn lines(&self) -> u8 {
         self.below.lines()

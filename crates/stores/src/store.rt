@@ -31,13 +31,13 @@ pub trait Store {
 
     // Puts the gate in the place of the one that stands there.
     fn overwrite(&mut self, place: usize, gate: Gate) -> Result<(), StoreRefusal>
-        ensures answers { result ≡ answer (overwrite_outcome Self.Kind.GateKind.means (means self.old) place gate) }
-        ensures leaves { means self.new ≡ after (means self.old) (overwrite_outcome Self.Kind.GateKind.means (means self.old) place gate) };
+        ensures answers { result ≡ answer (overwrite_outcome Self.Kind.means (means self.old) place gate) }
+        ensures leaves { means self.new ≡ after (means self.old) (overwrite_outcome Self.Kind.means (means self.old) place gate) };
 
     // Puts the gate before a place, or at the end where the place is the count.
     fn insert(&mut self, place: usize, gate: Gate) -> Result<(), StoreRefusal>
-        ensures answers { result ≡ answer (insert_outcome Self.Kind.GateKind.means (means self.old) place gate) }
-        ensures leaves { means self.new ≡ after (means self.old) (insert_outcome Self.Kind.GateKind.means (means self.old) place gate) };
+        ensures answers { result ≡ answer (insert_outcome Self.Kind.means (means self.old) place gate) }
+        ensures leaves { means self.new ≡ after (means self.old) (insert_outcome Self.Kind.means (means self.old) place gate) };
 
     // Takes the gate at a place out and answers it.
     fn remove(&mut self, place: usize) -> Result<Gate, StoreRefusal>

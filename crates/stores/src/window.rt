@@ -17,7 +17,7 @@ pub struct Window<S> {
 
 // Refuses a window from a place to another before it, or to one above the count.
 pub fn check_window<S: Store>(below: &S, from: usize, to: usize) -> Result<(), StoreRefusal>
-    ensures { result ≡ window_outcome (S.Store.means below.now) from to }
+    ensures { result ≡ window_outcome (S.means below.now) from to }
 {
     if from <= to && to <= below.count() {
         Ok(())
@@ -30,7 +30,7 @@ impl<S: Store> Window<S> {
     // The window on the places `from` to `to` - 1 of a store; on the whole list where the check refuses them.
     pub fn new(below: S, from: usize, to: usize) -> Window<S>
         ensures holds { result.below ≡ below }
-        ensures shows { window result.start result.size (S.Store.means result.below) ≡ window_made from to (S.Store.means below) }
+        ensures shows { window result.start result.size (S.means result.below) ≡ window_made from to (S.means below) }
     {
         let (start, size) = match check_window(&below, from, to) {
             Ok(()) => (from, to - from),
@@ -48,7 +48,7 @@ impl<S: Store> Window<S> {
 
     // The place below where the window begins.
     fn first(&self) -> usize
-        ensures { result ≡ start_in (S.Store.means self.now.below) self.now.start }
+        ensures { result ≡ start_in (S.means self.now.below) self.now.start }
     {
         self.start.min(self.below.count())
     }
@@ -57,9 +57,9 @@ impl<S: Store> Window<S> {
 impl<S: Store> Store for Window<S> {
     type Kind = S::Kind;
 
-    ghost means = { λ s. window s.start s.size (S.Store.means s.below) };
+    ghost means = { λ s. window s.start s.size (S.means s.below) };
 
-    ghost bounded = { λ s. window_bounded s.start s.size (S.Store.means s.below) (S.Store.bounded s.below) };
+    ghost bounded = { λ s. window_bounded s.start s.size (S.means s.below) (S.bounded s.below) };
 
     fn lines(&self) -> u8 {
         self.below.lines()

@@ -13,7 +13,7 @@ use stores::Store;
 
 // The frame from a place on: no gate where the list ends before it.
 pub(crate) fn frame_from<S: Store>(store: &S, first: usize) -> Frame
-    ensures { contents result ≡ frame_at (S.Store.means store.now).gates first }
+    ensures { contents result ≡ frame_at (S.means store.now).gates first }
 {
     let mut frame = FixedList::new(Gate::BLANK);
     let end = store.count().min(first.saturating_add(REACH));

@@ -50,21 +50,21 @@ impl<S: Store> Problem for Holdings<S> {
 
     type Note = Note;
 
-    ghost sound = { λ h. Searchable S.Kind.GateKind.means (condition_of S.Store.means h) };
+    ghost sound = { λ h. Searchable S.Kind.means (condition_of S.means h) };
 
-    ghost occurring = { λ h. OccursIn S.Kind.GateKind.means (condition_of S.Store.means h) };
+    ghost occurring = { λ h. OccursIn S.Kind.means (condition_of S.means h) };
 
-    ghost test = { λ h. occurs_in_test S.Kind.GateKind.means (condition_of S.Store.means h) };
+    ghost test = { λ h. occurs_in_test S.Kind.means (condition_of S.means h) };
 
     ghost decides = { λ h searchable. searchable.decides };
 
     ghost formed = { λ h searchable. searchable.fits };
 
-    ghost view = { λ h. shown_of (condition_of S.Store.means h).shelf };
+    ghost view = { λ h. shown_of (condition_of S.means h).shelf };
 
-    ghost started = { λ h first start. Started (S.Store.means h.store).gates first start };
+    ghost started = { λ h first start. Started (S.means h.store).gates first start };
 
-    ghost noted = { λ h. Noted S.Kind.GateKind.means (condition_of S.Store.means h) };
+    ghost noted = { λ h. Noted S.Kind.means (condition_of S.means h) };
 
     fn starts(&self) -> usize {
         self.store.count()

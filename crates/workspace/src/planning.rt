@@ -19,9 +19,9 @@ use stores::Store;
 impl<S: Store> Holdings<S> {
     // The plan of replacing the occurrence that the key names; none where it names none.
     fn plan(&self, key: &Key) -> Option<Plan>
-        ensures { Sound S.Kind.GateKind.means (condition_of S.Store.means self.now)
-            → OccursIn S.Kind.GateKind.means (condition_of S.Store.means self.now) (keyed key.now)
-            → Plans S.Kind.GateKind.means (condition_of S.Store.means self.now) (keyed key.now) result }
+        ensures { Sound S.Kind.means (condition_of S.means self.now)
+            → OccursIn S.Kind.means (condition_of S.means self.now) (keyed key.now)
+            → Plans S.Kind.means (condition_of S.means self.now) (keyed key.now) result }
     {
         let template = self.shelf.template_at(usize::from(key.at(1)))?;
         let named = decode(template.lines(), key)?;
@@ -38,9 +38,9 @@ impl<S: Store> Holdings<S> {
 
     // Takes the chosen gates out, puts the inverses of the template's other gates in, last to first, and counts the replacement.
     fn carry_out(&mut self, plan: &Plan) -> Replacement
-        ensures { (key : List ℕ) → Sound S.Kind.GateKind.means (condition_of S.Store.means self.old)
-            → Planned S.Kind.GateKind.means (condition_of S.Store.means self.old) key plan.now
-            → Replaced S.Kind.GateKind.means (condition_of S.Store.means self.old) key result (condition_of S.Store.means self.new) }
+        ensures { (key : List ℕ) → Sound S.Kind.means (condition_of S.means self.old)
+            → Planned S.Kind.means (condition_of S.means self.old) key plan.now
+            → Replaced S.Kind.means (condition_of S.means self.old) key result (condition_of S.means self.new) }
     {
         let named = &plan.named;
         let extended = plan.extended.as_slice();
@@ -57,9 +57,9 @@ impl<S: Store> Holdings<S> {
 
     // Replaces the occurrence that the key names.
     pub(crate) fn replace(&mut self, key: &Key) -> Replacement
-        ensures { Sound S.Kind.GateKind.means (condition_of S.Store.means self.old)
-            → OccursIn S.Kind.GateKind.means (condition_of S.Store.means self.old) (keyed key.now)
-            → Replaced S.Kind.GateKind.means (condition_of S.Store.means self.old) (keyed key.now) result (condition_of S.Store.means self.new) }
+        ensures { Sound S.Kind.means (condition_of S.means self.old)
+            → OccursIn S.Kind.means (condition_of S.means self.old) (keyed key.now)
+            → Replaced S.Kind.means (condition_of S.means self.old) (keyed key.now) result (condition_of S.means self.new) }
     {
         match self.plan(key) {
             Some(plan) => self.carry_out(&plan),

@@ -41,7 +41,7 @@ impl<K: GateKind> Clone for Start<K> {
 
 // What is known for this first place.
 pub(crate) fn start_at<S: Store>(store: &S, first: usize) -> Start<S::Kind>
-    ensures { contents result.frame ≡ frame_at (S.Store.means store.now).gates first }
+    ensures { contents result.frame ≡ frame_at (S.means store.now).gates first }
 {
     let frame = frame_from(store, first);
     let gates = frame.as_slice();
