@@ -12,10 +12,16 @@ KEYWORDS = set("pub fn let mut for in if else match return while loop impl struc
                "true false ghost requires ensures super crate type where u8 u16 u32 u64 usize bool".split())
 
 
+def walk():
+    for folder, folders, files in os.walk(os.path.join(ROOT, "crates")):
+        folders[:] = sorted(name for name in folders if name not in ("out", "target"))
+        yield folder, folders, sorted(files)
+
+
 def sources():
-    for folder, _, files in sorted(os.walk(os.path.join(ROOT, "crates"))):
+    for folder, folders, files in walk():
         if os.sep + "src" in folder:
-            for name in sorted(files):
+            for name in files:
                 if name.endswith(".rt"):
                     path = os.path.join(folder, name)
                     yield os.path.relpath(path, ROOT), open(path).read().split("\n")
@@ -122,7 +128,7 @@ def companions():
 
 def answers():
     count, rows = 0, 0
-    for folder, _, files in os.walk(os.path.join(ROOT, "crates")):
+    for folder, folders, files in walk():
         if os.sep + "proofs" in folder:
             for name in files:
                 if name.endswith(".antt"):
