@@ -4,7 +4,6 @@ use Rattle.std.specs.Bool.{then_some}
 use Rattle.std.proofs.lemmas.Bool.{cases_lt}
 use Rattle.search.specs.declared.policy.Shown.{Shown}
 use Rattle.search.specs.declared.policy.Reply.{Reply}
-use Rattle.search.specs.declared.policy.Reply.TheVariants.{Leave, Take, Close}
 use Rattle.search.specs.Policy.{PolicyMeaning, Standing, standing, replied, scan}
 use Rattle.search.specs.Listing.{row, alone, listed, shown_under}
 use Rattle.search.proofs.Scans.{scan_append, scan_after_close, scan_nil, scan_one}
@@ -19,31 +18,16 @@ fails_unshown : (t : Bool) (v : Shown) → None ≡ then_some t v → t ≡ fals
 fails_unshown true v e = cc
 fails_unshown false v e = refl
 
--- after a reply to x, where `closed` says whether the policy closed before
-abbrev pub stays : {X : Type 0} → Reply → Bool → List ℕ → Option X → X → Standing X
-stays Leave closed kept taken x = standing closed kept taken
-stays Take closed kept taken x = standing closed kept (Some x)
-stays Close closed kept taken x = standing true kept (Some x)
+-- a whole key, where the policy has not closed: it fails the test, or it is shown
+module _ (rule : PolicyMeaning) (view : List ℕ → Shown) (test : List ℕ → Bool) (k : List ℕ) (kept : List ℕ) (taken : Option (List ℕ)) where
+  pub visit_none : None ≡ then_some (test k) (view k) → standing false kept taken ≡ scan rule view (standing false kept taken) (alone test k)
+  visit_none e = sym (ap (scan rule view _) (alone_none test k (fails_unshown (test k) (view k) e)) ∙ scan_nil rule view _)
 
-stays_open : {X : Type 0} (r : Reply) (kept : List ℕ) (taken : Option X) (x : X) → stays r false kept taken x ≡ replied r kept taken x
-stays_open Leave kept taken x = refl
-stays_open Take kept taken x = refl
-stays_open Close kept taken x = refl
-
--- a whole key: it fails the test, or it is shown
-module _ (rule : PolicyMeaning) (view : List ℕ → Shown) (test : List ℕ → Bool) (k : List ℕ) (s : Standing (List ℕ)) where
-  pub visit_none : None ≡ then_some (test k) (view k) → s ≡ scan rule view s (alone test k)
-  visit_none e = sym (ap (scan rule view s) (alone_none test k (fails_unshown (test k) (view k) e)) ∙ scan_nil rule view s)
-
-  pub visit_one : s.closed ≡ false → (r : Reply) (shown : Shown) (after : List ℕ) → Some shown ≡ then_some (test k) (view k) → r ≡ rule.reply s.kept shown → after ≡ rule.next s.kept shown
-      → stays r s.closed after s.taken k ≡ scan rule view s (alone test k)
-  visit_one open' r shown after e said keeps =
+  pub visit_one : (r : Reply) (shown : Shown) (after : List ℕ) → Some shown ≡ then_some (test k) (view k) → r ≡ rule.reply kept shown → after ≡ rule.next kept shown
+      → replied r after taken k ≡ scan rule view (standing false kept taken) (alone test k)
+  visit_one r shown after e said keeps =
       let passes = passes_shown (test k) (view k) shown e in
-      ap (λ (b : Bool). stays r b after s.taken k) open'
-      ∙ stays_open r after s.taken k
-      ∙ scan_one rule view s.kept s.taken k r shown after passes.1 said keeps
-      ∙ ap (λ (b : Bool). scan rule view (standing b s.kept s.taken) (k ∷ [])) (sym open')
-      ∙ ap (scan rule view s) (sym (alone_some test k passes.0))
+      scan_one rule view kept taken k r shown after passes.1 said keeps ∙ ap (scan rule view (standing false kept taken)) (sym (alone_some test k passes.0))
 
 -- once the policy closed, what follows changes nothing
 closed_row : (rule : PolicyMeaning) (view : List ℕ → Shown) (f : ℕ → List (List ℕ)) (s now : Standing (List ℕ)) (a b : ℕ) → a ≤ b → now.closed ≡ true

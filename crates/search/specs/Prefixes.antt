@@ -1,5 +1,7 @@
 -- What a step of the search may rely on at a prefix, and where a policy stands that is shown keys.
-use Rattle.std.specs.Prelude.{ℕ, List}
+use Rattle.std.specs.Prelude.{ℕ, List, is_some}
+use Rattle.std.specs.ControlFlow.{break_value}
+use Rattle.std.specs.declared.ops.ControlFlow.{ControlFlow}
 use Rattle.search.specs.declared.prefix.Prefix.{Prefix}
 use Rattle.search.specs.declared.showing.Showing.{Showing}
 use Rattle.search.specs.declared.walk.Problem.{Ghosts}
@@ -11,6 +13,6 @@ use Rattle.search.specs.Policy.{Standing, standing}
 abbrev pub FitsPrefix : {Q X Y : Type 0} → Ghosts Q X Y → Prefix Q X Y → Type 0
 FitsPrefix problem prefix = FitsAt problem.sound problem.started problem.noted prefix.problem.now prefix.key prefix.start.now prefix.note
 
--- where the policy stands
-abbrev pub stands : {P : Type 0} → (P → List ℕ) → Showing P → Standing (List ℕ)
-stands kept showing = standing showing.closed (kept showing.policy.now) (held showing.taken)
+-- where the policy stands; a break says that it closed
+abbrev pub stands : {P : Type 0} → (P → List ℕ) → ControlFlow (Unit {0}) (Unit {0}) → Showing P → Standing (List ℕ)
+stands kept flow showing = standing (is_some (break_value flow)) (kept showing.policy.now) (held showing.taken)

@@ -1,4 +1,5 @@
-use Rattle.std.proofs.Common.{◌<◌, ◌++◌, ◌∷◌, [], refl, ap, ◌∙◌, length, arith}
+use Rattle.std.proofs.Common.{ControlFlow, Continue, is_some, ◌≡◌, ◌<◌, ◌++◌, ◌∷◌, [], sym, refl, ap, ◌∙◌, length, arith}
+use Rattle.std.specs.ControlFlow.{break_value}
 use Rattle.search.specs.Keys.{key_size, number_limit, keyed}
 use Rattle.search.specs.Policy.{scan}
 use Rattle.search.specs.Prefixes.{FitsPrefix, stands}
@@ -16,24 +17,27 @@ loop-number-init g t c = record { same = refl; split = refl; seen = λ fits room
 
 -- once the keys under one more number were shown
 next : (g : _) (t : _) (c : After-descend g t) → FitsPrefix g.Q.Problem c.args.prefix.now → (room : length (keyed c.args.prefix.now.key) < key_size)
-    → SeenOf g.P.Policy.rule g.Q.Problem.view g.Q.Problem.test c.args.prefix.now.problem.now (keyed c.args.prefix.now.key) room (stands g.P.Policy.kept c.args.self.now) (c.loop-number.yielded ++ c.in-Some.number ∷ [])
-    (stands g.P.Policy.kept c.descend.new.self)
-next g t c fits room =
+    → (flow : ControlFlow (Unit {0}) (Unit {0})) → c.descend.result ≡ flow
+    → SeenOf g.P.Policy.rule g.Q.Problem.view g.Q.Problem.test c.args.prefix.now.problem.now (keyed c.args.prefix.now.key) room (stands g.P.Policy.kept (Continue tt) c.args.self.now) (c.loop-number.yielded ++ c.in-Some.number ∷ [])
+    (stands g.P.Policy.kept flow c.descend.new.self)
+next g t c fits room flow is =
     seen_with g.P.Policy.rule g.Q.Problem.view g.Q.Problem.test _ _ room _ _ _ (c.loop-number.invariant.seen fits room) _ _ c.longer.ensures.is _ c.longer.ensures.of _
-    (c.descend.ensures.shows (c.longer.ensures.fits fits room))
+    (ap (λ (f : ControlFlow (Unit {0}) (Unit {0})). stands g.P.Policy.kept f c.descend.new.self) (sym is) ∙ c.descend.ensures.shows (c.longer.ensures.fits fits room))
 
-pub returns-then-self-clause-shows : goal.returns-then-self-clause-shows
-returns-then-self-clause-shows g t c fits =
+pub returns-in_err-descend-clause-shows : goal.returns-in_err-descend-clause-shows
+returns-in_err-descend-clause-shows g t c fits =
     let room = c.if-is_last.ensures.room refl in
+    let broke = c.from_residual.ensures in
     seen_end g.P.Policy.rule g.Q.Problem.view g.Q.Problem.test _ _ room _ _ (c.candidates.ensures fits) (omega arith) (c.if-is_last.ensures.whole fits) _ _
     (split_next _ _ _ _ _ c.loop-number.invariant.split c.in-Some.ensures.steps ∙ c.into_iter-number-iterator.ensures.into_iter_gives ∙ c.of-number-items.ensures)
-    _ (next g t (goal.at.returns-then-self-clause-shows g t c).After-descend fits room) c.if-self.true
+    _ (next g t (goal.at.returns-in_err-descend-clause-shows g t c).After-descend fits room c.from_residual.result (c.in_err-descend.was ∙ sym broke))
+    (ap (λ (f : ControlFlow (Unit {0}) (Unit {0})). is_some (break_value f)) broke)
 
 pub loop-number-preserved : goal.loop-number-preserved
 loop-number-preserved g t c = record {
   same = c.descend.ensures.same ∙ c.loop-number.invariant.same;
   split = split_next _ _ _ _ _ c.loop-number.invariant.split c.in-Some.ensures.steps;
-  seen = next g t (goal.at.loop-number-preserved g t c).After-descend;
+  seen = λ fits room. next g t (goal.at.loop-number-preserved g t c).After-descend fits room (Continue tt) (c.in_ok-descend.was);
 }
 
 pub returns-clause-shows : goal.returns-clause-shows

@@ -1,4 +1,4 @@
-use Rattle.std.proofs.Common.{◌≡◌, ◌-◌, ◌<◌, ◌++◌, length}
+use Rattle.std.proofs.Common.{Continue, ◌≡◌, ◌-◌, ◌<◌, ◌++◌, length}
 use Rattle.search.specs.Keys.{key_size, keyed}
 use Rattle.search.specs.Prefixes.{FitsPrefix, stands}
 use Rattle.search.proofs.Covered.{SeenOf}
@@ -13,5 +13,5 @@ invariant-loop-number g l =
       same : l.self.policy.ghost_name ≡ l.initial.self.policy.ghost_name;
       split : l.yielded ++ l.number-iterator ≡ l.initial.number-iterator;
       seen : FitsPrefix g.Q.Problem l.prefix → (room : length (keyed l.prefix.key) < key_size)
-          → SeenOf g.P.Policy.rule g.Q.Problem.view g.Q.Problem.test l.prefix.problem.now (keyed l.prefix.key) room (stands g.P.Policy.kept l.initial.self) l.yielded (stands g.P.Policy.kept l.self);
+          → SeenOf g.P.Policy.rule g.Q.Problem.view g.Q.Problem.test l.prefix.problem.now (keyed l.prefix.key) room (stands g.P.Policy.kept (Continue tt) l.initial.self) l.yielded (stands g.P.Policy.kept (Continue tt) l.self);
     }
