@@ -7,7 +7,7 @@ ghost use Rattle.search.specs.Sets.{numbers_in};
 
 use std::marker::Model;
 
-// The set with one number more; one from 64 on is in no set.
+// The set with one number more; one from 64 on is in no set. In 64 bits, since a next number can be above 31.
 pub fn with_number(set: u64, number: usize) -> u64
     ensures { (i : ℕ) → i < 64 → bit result i ≡ (i == number || bit set i) }
 {

@@ -26,7 +26,7 @@ impl Key {
     // The numbers, in order.
     pub fn as_slice(&self) -> &[u16]
         ensures is { result.now ≡ keyed self.now }
-        ensures few { length result.now ≤ 24 }
+        ensures few { length result.now ≤ KEY_SIZE }
     {
         self.numbers.as_slice()
     }
@@ -34,7 +34,7 @@ impl Key {
     // How many numbers the key has.
     pub fn len(&self) -> usize
         ensures is { result ≡ length (keyed self.now) }
-        ensures few { result ≤ 24 }
+        ensures few { result ≤ KEY_SIZE }
     {
         self.numbers.len()
     }
