@@ -35,7 +35,7 @@ impl Problem for Triples {
     ghost noted = { λ s. Leaves s.total };
 
     fn starts(&self) -> usize {
-        (self.total as usize + 1).min(4096)
+        (usize::from(self.total) + 1).min(4096)
     }
 
     fn start(&self, first: u16) -> u16 {
@@ -47,12 +47,7 @@ impl Problem for Triples {
     }
 
     fn note(&self, start: &u16, above: &u16, key: &Key) -> u16 {
-        let count = key.len();
-        if count == 0 {
-            *above
-        } else {
-            above.saturating_sub(key.at(count - 1))
-        }
+        above.saturating_sub(key.as_slice().last().copied().unwrap_or(0))
     }
 
     fn is_whole(&self, start: &u16, note: &u16, key: &Key) -> bool {
@@ -61,22 +56,24 @@ impl Problem for Triples {
 
     fn candidates(&self, start: &u16, note: &u16, key: &Key) -> u64 {
         if key.len() == 1 {
-            candidates::numbers_below(*start as usize + 1)
+            candidates::numbers_below(usize::from(*start) + 1)
         } else {
-            candidates::with_number(0, *note as usize)
+            candidates::with_number(0, usize::from(*note))
         }
     }
 
     fn occurs(&self, start: &u16, note: &u16, key: &Key) -> bool {
-        let [a, b, c] = [0, 1, 2].map(|place| key.at(place));
-        key.len() == 3 && a < 4096 && b < 64 && c < 64 && a + b + c == self.total
+        let &[a, b, c] = key.as_slice() else {
+            return false;
+        };
+        a < 4096 && b < 64 && c < 64 && a + b + c == self.total
     }
 
     fn shown(&self, start: &u16, note: &u16, key: &Key) -> Shown {
         Shown {
-            saved: key.at(1) as usize,
-            place: key.at(0) as usize,
-            template: key.at(2) as usize,
+            saved: usize::from(key.at(1)),
+            place: usize::from(key.at(0)),
+            template: usize::from(key.at(2)),
         }
     }
 }
