@@ -1,6 +1,7 @@
 -- Keys, their order by rank, and the list of all keys of some property.
-use Rattle.std.specs.Prelude.{◌≡◌, ℕ, ◌<◌, cond, ◌⊎◌, List, [], ◌∷◌, ◌++◌, length, Some, None, Option, nat_lt}
+use Rattle.std.specs.Prelude.{◌≡◌, ℕ, ◌<◌, cond, ◌⊎◌, List, [], ◌∷◌, ◌++◌, length, Option, nat_lt}
 use Rattle.std.specs.List.{AllByRecursion}
+use Rattle.std.specs.Option.{option_map}
 use Rattle.fixed_list.specs.Lists.{contents}
 use Rattle.search.specs.declared.key.Key.{Key}
 
@@ -18,8 +19,7 @@ keyed key = contents key.numbers
 
 -- the numbers of a key that there may be
 abbrev pub held : Option Key → Option (List ℕ)
-held None = None
-held (Some key) = Some (keyed key)
+held = option_map keyed
 
 -- the key with one number more; a full key stays as it is
 abbrev pub with_number : List ℕ → ℕ → List ℕ

@@ -1,6 +1,7 @@
 -- The list of all keys that pass a test, what a search for them may rely on, and what it answers.
 use Rattle.std.specs.Prelude.{◌≡◌, ℕ, zero, suc, ◌-◌, ◌<◌, ◌≤◌, Bool, true, false, cond, List, [], ◌∷◌, ◌++◌, length, Some, None, Option, ◌≢◌, slice_index}
 use Rattle.std.specs.List.{AllByRecursion}
+use Rattle.std.specs.Option.{option_map}
 use Rattle.gates.specs.Lines.{bit}
 use Rattle.search.specs.declared.key.Key.{Key}
 use Rattle.search.specs.declared.policy.Shown.{Shown}
@@ -97,8 +98,7 @@ pub record Chosen (Occurs : List ℕ → Type 0) (view : List ℕ → Shown) (ru
 
 -- the numbers of the key that was found, if one was
 abbrev pub found_key : Option Found → Option (List ℕ)
-found_key None = None
-found_key (Some found) = Some (keyed found.key)
+found_key = option_map (λ found. keyed found.key)
 
 -- with what was found comes the least first number of the keys that satisfy P
 abbrev pub FoundLowest : (List ℕ → Type 0) → Option Found → Type 0
