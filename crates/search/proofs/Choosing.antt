@@ -1,5 +1,6 @@
 -- From a search of all keys to its answer.
 use Rattle.std.proofs.Common.{◌≡◌, ℕ, suc, ◌<◌, ◌≤◌, Bool, true, false, List, [], ◌∷◌, is_some, Some, None, IsSomeAnd, MatchOption, Decides, Option, sym, refl, ap, ◌∙◌, subst, ⊎_elim, arith}
+use Rattle.std.proofs.lemmas.Option.{none-some}
 use Rattle.std.proofs.lemmas.Bool.{cases_lt, true≢false, false≢true}
 use Rattle.search.specs.declared.policy.Shown.{Shown}
 use Rattle.search.specs.Policy.{PolicyMeaning, TakesFirst, Standing, standing, scan, opening}
@@ -18,7 +19,7 @@ pub record FoundBy (test : List ℕ → Bool) (lowest : ℕ) (taken : Option (Li
   pub there : (k : List ℕ) → taken ≡ Some k → (rest : List ℕ) × Passes test (lowest ∷ rest)
 
 pub found_none : (test : List ℕ → Bool) (lowest : ℕ) → StartsFrom (Passes test) lowest → FoundBy test lowest None
-found_none test lowest below = record { below = below; there = λ k e. absurd (let z : ◌≡◌ {A = ℕ} 0 1 = cc in let w : ⊥ = omega arith in w) }
+found_none test lowest below = record { below = below; there = λ k e. absurd (none-some k e) }
 
 module _ (rule : PolicyMeaning) (view : List ℕ → Shown) (test : List ℕ → Bool) (limit left base : ℕ) (now : Standing (List ℕ)) (first : TakesFirst rule) (fits : FitsKey test (suc left) limit)
     (seen : Seen rule view test limit left [] (opening rule) base now) (none : now.taken ≡ None) where
@@ -44,7 +45,7 @@ pub held_none : (o : Option Key) → is_some o ≡ false → held o ≡ None
 held_none None e = refl
 held_none (Some key) e = absurd (true≢false e)
 
-pub held_some : (o : Option Key) → is_some o ≡ true → (k : List ℕ) × (held o ≡ Some k)
+held_some : (o : Option Key) → is_some o ≡ true → (k : List ℕ) × (held o ≡ Some k)
 held_some None e = absurd (false≢true e)
 held_some (Some key) e = (keyed key, refl)
 

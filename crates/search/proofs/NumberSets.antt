@@ -40,6 +40,12 @@ below_some count i h =
 abbrev more_by : ℕ → List ℕ → Bool → List ℕ
 more_by n ys t = ys ++ cond t (n ∷ []) []
 
+-- where the set has none of the numbers below n
+none_under : (set n : ℕ) → ((i : ℕ) → i < n → bit set i ≡ false) → numbers_under set n ≡ []
+unfolding numbers_under
+none_under set zero none = refl
+none_under set (suc n) none = ap₂ (more_by n) (none_under set n (λ i l. none i (omega arith))) (none n (omega arith))
+
 -- a set without its lowest number
 module _ (set : ℕ) (more : 0 < set) (fits : set < 2 ^ 64) where
   abbrev lowest : ℕ
@@ -71,22 +77,11 @@ module _ (set : ℕ) (more : 0 < set) (fits : set < 2 ^ 64) where
   others_kept : (i : ℕ) → i ≢ lowest → bit others i ≡ bit set i
   others_kept i ne = bit_others i ∙ ap (λ (t : Bool). inverted_if t (bit set i)) (ne_eqb i lowest ne)
 
-  -- below the lowest number there is none
-  none_set : (n : ℕ) → n ≤ lowest → numbers_under set n ≡ []
-  unfolding numbers_under
-  none_set zero l = refl
-  none_set (suc n) l = ap₂ (more_by n) (none_set n (omega arith)) (lower_clear n (omega arith))
-
-  none_others : (n : ℕ) → n ≤ lowest → numbers_under others n ≡ []
-  unfolding numbers_under
-  none_others zero l = refl
-  none_others (suc n) l = ap₂ (more_by n) (none_others n (omega arith)) (others_kept n (λ e. omega arith) ∙ lower_clear n (omega arith))
-
   first_at : (n : ℕ) → n ≡ lowest → numbers_under set (suc n) ≡ lowest ∷ numbers_under others (suc n)
   unfolding numbers_under
   first_at n e =
-      ap₂ (more_by n) (none_set n (omega arith)) (ap (bit set) e ∙ lowest_there)
-      ∙ ap₂ (λ (x : ℕ) (ys : List ℕ). x ∷ ys) e (sym (ap₂ (more_by n) (none_others n (omega arith)) (ap (bit others) e ∙ others_gone)))
+      ap₂ (more_by n) (none_under set n (λ i l. lower_clear i (omega arith))) (ap (bit set) e ∙ lowest_there)
+      ∙ ap₂ (λ (x : ℕ) (ys : List ℕ). x ∷ ys) e (sym (ap₂ (more_by n) (none_under others n (λ i l. others_kept i (λ h. omega arith) ∙ lower_clear i (omega arith))) (ap (bit others) e ∙ others_gone)))
 
   first_under : (n : ℕ) → lowest < n → numbers_under set n ≡ lowest ∷ numbers_under others n
   unfolding numbers_under
@@ -100,7 +95,6 @@ module _ (set : ℕ) (more : 0 < set) (fits : set < 2 ^ 64) where
   pub lowest_first : numbers_in set ≡ lowest ∷ numbers_in others
   lowest_first = first_under 64 lowest_below
 
-pub none_in : (n : ℕ) → numbers_under 0 n ≡ []
-unfolding numbers_under
-none_in zero = refl
-none_in (suc n) = ap₂ (more_by n) (none_in n) (bit_none n)
+-- the set of no numbers
+pub none_in : numbers_in 0 ≡ []
+none_in = none_under 0 64 (λ i l. bit_none i)

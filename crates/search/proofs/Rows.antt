@@ -13,7 +13,7 @@ unfolding row
 row_more f n = let same : n + 1 ≡ suc n = omega arith in ap (λ (k : ℕ). row k f) same
 
 -- a stretch of numbers with nothing adds nothing
-pub row_skip : (f : ℕ → List (List ℕ)) (a b : ℕ) → a ≤ b → ((v : ℕ) → a ≤ v → v < b → f v ≡ []) → row b f ≡ row a f
+row_skip : (f : ℕ → List (List ℕ)) (a b : ℕ) → a ≤ b → ((v : ℕ) → a ≤ v → v < b → f v ≡ []) → row b f ≡ row a f
 unfolding row
 row_skip f a zero h e = let same : 0 ≡ a = omega arith in ap (λ (n : ℕ). row n f) same
 row_skip f a (suc b) h e =
@@ -42,7 +42,7 @@ module _ (test : List ℕ → Bool) where
   regroup prefix v rest e = ap test (sym (append_assoc prefix (v ∷ []) rest)) ∙ e
 
   -- where no key with the prefix passes, nothing is listed
-  pub listed_none : (limit left : ℕ) (prefix : List ℕ) → ((rest : List ℕ) → test (prefix ++ rest) ≡ true → ⊥) → listed test limit left prefix ≡ []
+  listed_none : (limit left : ℕ) (prefix : List ℕ) → ((rest : List ℕ) → test (prefix ++ rest) ≡ true → ⊥) → listed test limit left prefix ≡ []
   unfolding listed
   listed_none limit zero prefix h = alone_none prefix (fails prefix h)
   listed_none limit (suc left) prefix h =

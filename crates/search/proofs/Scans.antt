@@ -1,6 +1,7 @@
 -- Laws of showing a policy a list.
-use Rattle.std.proofs.Common.{◌≡◌, ℕ, Bool, true, false, List, [], ◌∷◌, ◌++◌, Some, None, Option, sym, refl, ap, ◌∙◌, subst, arith}
+use Rattle.std.proofs.Common.{◌≡◌, ℕ, Bool, true, false, List, [], ◌∷◌, ◌++◌, Some, None, Option, sym, refl, ap, ◌∙◌, subst}
 use Rattle.std.specs.List.{AllByRecursion}
+use Rattle.std.proofs.lemmas.Option.{none-some}
 use Rattle.search.specs.declared.policy.Shown.{Shown}
 use Rattle.search.specs.declared.policy.Reply.{Reply}
 use Rattle.search.specs.declared.policy.Reply.TheVariants.{Leave, Take, Close}
@@ -61,7 +62,7 @@ module _ {X : Type 0} (rule : PolicyMeaning) (view : X → Shown) where
   all_unit (x ∷ xs) = (tt, all_unit xs)
 
   some_taken : (x : X) → Unit {0} → Taken (Some x)
-  some_taken x _ e = let z : ◌≡◌ {A = ℕ} 0 1 = cc in omega arith
+  some_taken x _ e = none-some x (sym e)
 
   -- where the first is never left, nothing is chosen only of nothing
   pub none_of_none : TakesFirst rule → (xs : List X) → chosen rule view xs ≡ None → xs ≡ []
@@ -79,7 +80,7 @@ module _ {X : Type 0} (rule : PolicyMeaning) (view : X → Shown) where
   -- what is taken of a list, where nothing was taken before, has what all of the list have
   pub scan_has : (P : X → Type 0) (s : Standing X) (xs : List X) (x : X) → s.taken ≡ None → AllByRecursion P xs → (scan rule view s xs).taken ≡ Some x → P x
   scan_has P s xs x none a e =
-      scan_keeps (λ o. o ≡ Some x → P x) P (λ y p said. let same : y ≡ x = cc in subst P same p) s xs (λ said. absurd (let z : ◌≡◌ {A = ℕ} 0 1 = cc in let w : ⊥ = omega arith in w)) a e
+      scan_keeps (λ o. o ≡ Some x → P x) P (λ y p said. let same : y ≡ x = cc in subst P same p) s xs (λ said. absurd (none-some x (sym none ∙ said))) a e
 
   pub chosen_has : (P : X → Type 0) (xs : List X) (x : X) → AllByRecursion P xs → chosen rule view xs ≡ Some x → P x
   chosen_has P xs x a e = scan_has P (opening rule) xs x refl a e

@@ -1,5 +1,5 @@
 -- What the policies single out of a list of keys.
-use Rattle.std.proofs.Common.{◌≡◌, ℕ, ◌<◌, ◌≤◌, Bool, true, false, cond, ◌⊎◌, List, [], ◌∷◌, ◌++◌, Some, sym, refl, ap, ◌∙◌, subst, inl, inr, arith}
+use Rattle.std.proofs.Common.{◌≡◌, ℕ, ◌<◌, ◌≤◌, Bool, false, cond, ◌⊎◌, List, [], ◌∷◌, ◌++◌, Some, sym, refl, ap, ◌∙◌, subst, inl, inr, arith}
 use Rattle.std.specs.List.{AllByRecursion}
 use Rattle.std.proofs.lemmas.List.{append-nil, append_assoc}
 use Rattle.std.proofs.ByRecursion.{All-append, All-weaker}
@@ -7,13 +7,8 @@ use Rattle.std.proofs.lemmas.Bool.{cases_lt, lt-ltb, le-ltb}
 use Rattle.search.specs.declared.policy.Shown.{Shown}
 use Rattle.search.specs.declared.policy.Reply.TheVariants.{Leave, Take}
 use Rattle.search.specs.Policy.{Standing, standing, replied, scan}
+use Rattle.search.proofs.Scans.{scan_closed}
 use Rattle.search.specs.Policies.{earliest, largest, FirstGreatest, PolicyLaws}
-
--- after a close nothing more is taken
-closed_stays : (view : List ℕ → Shown) (kept : List ℕ) (key : List ℕ) (keys : List (List ℕ)) → (scan earliest view (standing true kept (Some key)) keys).taken ≡ Some key
-unfolding scan
-closed_stays view kept key [] = refl
-closed_stays view kept key (k ∷ keys) = closed_stays view kept key keys
 
 module _ (view : List ℕ → Shown) where
   -- where the largest stands with that key taken
@@ -74,6 +69,6 @@ unfolding scan Singled at_best
 policy_laws_lem = record {
   earliest_none = λ view. refl;
   largest_none = λ view. refl;
-  earliest_first = λ view key keys. closed_stays view [] key keys;
+  earliest_first = λ view key keys. ap (λ (s : Standing (List ℕ)). s.taken) (scan_closed earliest view [] (Some key) keys);
   largest_first = λ view key keys. singles view [] [] keys key tt tt;
 }

@@ -1,6 +1,7 @@
 -- A level of the search: the keys under each next number are shown in turn.
 use Rattle.std.proofs.Common.{◌≡◌, ℕ, zero, suc, ◌+◌, ◌<◌, ◌≤◌, Bool, true, false, List, [], ◌∷◌, ◌++◌, Some, None, Option, sym, refl, ap, ◌∙◌, ⊎_elim, arith}
 use Rattle.std.specs.Bool.{then_some}
+use Rattle.std.proofs.lemmas.Option.{none-some}
 use Rattle.std.proofs.lemmas.Bool.{cases_lt}
 use Rattle.search.specs.declared.policy.Shown.{Shown}
 use Rattle.search.specs.declared.policy.Reply.{Reply}
@@ -12,7 +13,7 @@ use Rattle.search.proofs.Rows.{row_nil, row_more, alone_none, alone_some, level,
 -- where something is shown of a key, it passes the test
 passes_shown : (t : Bool) (v s : Shown) → Some s ≡ then_some t v → (t ≡ true) × (s ≡ v)
 passes_shown true v s e = (refl, cc)
-passes_shown false v s e = absurd (let z : ◌≡◌ {A = ℕ} 0 1 = cc in let w : ⊥ = omega arith in w)
+passes_shown false v s e = absurd (none-some s (sym e))
 
 fails_unshown : (t : Bool) (v : Shown) → None ≡ then_some t v → t ≡ false
 fails_unshown true v e = cc
@@ -49,7 +50,7 @@ module _ (rule : PolicyMeaning) (view : List ℕ → Shown) (test : List ℕ →
   Seen base now = now ≡ scan rule view before (level test limit left base prefix)
 
   -- no key that passes has the number v next
-  abbrev pub Without : ℕ → Type 0
+  abbrev Without : ℕ → Type 0
   Without v = (rest : List ℕ) → test (prefix ++ v ∷ rest) ≡ true → ⊥
 
   pub seen_start : Seen 0 before

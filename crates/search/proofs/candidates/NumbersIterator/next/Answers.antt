@@ -4,7 +4,7 @@ use Rattle.search.proofs.NumberSets.{lowest_first, none_in}
 use Rattle.search.proofs.candidates.NumbersIterator.next.Goals as goal
 
 pub returns-then-self-eq0-clause-steps : goal.returns-then-self-eq0-clause-steps
-returns-then-self-eq0-clause-steps c = let none = sym c.self.view_is ∙ ap numbers_in c.if-self-eq0.true ∙ none_in 64 in (none, none)
+returns-then-self-eq0-clause-steps c = let none = sym c.self.view_is ∙ ap numbers_in c.if-self-eq0.true ∙ none_in in (none, none)
 
 pub returns-clause-steps : goal.returns-clause-steps
 returns-clause-steps c = sym c.self.view_is ∙ lowest_first c.self.inside.rest (omega arith) (omega arith)
