@@ -3,6 +3,7 @@ use crate::kinds::*;
 use crate::model::*;
 use crate::source::*;
 use gates::Gate;
+use std::fmt;
 use std::process::Abort;
 use stores::{Store, StoreRefusal};
 
@@ -47,6 +48,17 @@ impl Run {
         }
     }
 
+    // The answer is the expected one, which is counted.
+    fn check_answer<T: Copy + PartialEq + fmt::Debug>(
+        &mut self,
+        rt: &impl Abort,
+        answer: Result<T, StoreRefusal>,
+        expected: Result<T, StoreRefusal>,
+    ) {
+        self.tally.count(&expected);
+        assert_eq!(rt; answer, expected);
+    }
+
     // Many calls were answered, and each reason of refusal occurred.
     pub fn check_varied(&self, rt: &impl Abort) {
         assert!(rt; self.tally.answered > 100);
@@ -58,7 +70,7 @@ impl Run {
 
 // The answer with the refusal's number.
 pub fn numbered<T>(answer: Result<T, StoreRefusal>) -> Result<T, u8> {
-    answer.map_err(|refusal| refusal.number())
+    answer.map_err(StoreRefusal::number)
 }
 
 // The store with the gate put in so many times, each before the others.
@@ -105,18 +117,19 @@ where
         let call = run.source.draw() % 8;
         let place = run.source.draw_place(self.model.count());
         let gate = S::Kind::gate_of(run.source.draw());
-        if call < 4 {
-            let expected = self.model.insert::<S::Kind>(place, gate);
-            run.tally.count(&expected);
-            assert_eq!(rt; self.store.insert(place, gate), expected);
-        } else if call < 6 {
-            let expected = self.model.remove(place);
-            run.tally.count(&expected);
-            assert_eq!(rt; self.store.remove(place), expected);
-        } else {
-            let expected = self.model.overwrite::<S::Kind>(place, gate);
-            run.tally.count(&expected);
-            assert_eq!(rt; self.store.overwrite(place, gate), expected);
+        match call {
+            0..=3 => {
+                let expected = self.model.insert::<S::Kind>(place, gate);
+                run.check_answer(rt, self.store.insert(place, gate), expected);
+            }
+            4..=5 => {
+                let expected = self.model.remove(place);
+                run.check_answer(rt, self.store.remove(place), expected);
+            }
+            _ => {
+                let expected = self.model.overwrite::<S::Kind>(place, gate);
+                run.check_answer(rt, self.store.overwrite(place, gate), expected);
+            }
         }
     }
 
