@@ -15,7 +15,7 @@ pub struct List(FixedList<Gate, MOST>);
 impl List {
     // Reads the gates that a store shows.
     pub fn of<S: Store>(store: &S) -> Result<List, StoreRefusal> {
-        let mut gates = FixedList::new(Gate::default());
+        let mut gates = FixedList::new(Gate::BLANK);
         // A store is read place by place: it need not have its gates in a row.
         for place in 0..store.count().min(MOST) {
             let _ = gates.push(store.read(place)?);

@@ -62,7 +62,7 @@ fn main(rt: HostRuntime) -> Result<(), Failure> {
     invert_cascade::<Toffoli>(&mut back);
     print!(rt; "{}", Trips::new(&ADDER, &back))?;
     check_lines(LINES)?;
-    let mut records = [Gate::default(); MOST];
+    let mut records = [Gate::BLANK; MOST];
     let store: GapStore<Toffoli> = GapStore::new(&mut records, LINES);
     tell_mounts(&rt, store)?;
     shelving::tell_shelving(&rt)?;

@@ -70,6 +70,7 @@ impl<'a, R: Print, S: Store> Shelving<'a, R, S> {
     // Prints each entry's number with its count, and how many there are.
     fn tell_entries(&self) -> io::Result<()> {
         let count = self.workspace.entry_count();
+        // Entries are asked for by number: a workspace lends no list.
         for number in 0..count {
             if let Ok(replacements) = self.workspace.replacements(number) {
                 println!(self.rt; "entry {number}: replacements {replacements}")?;

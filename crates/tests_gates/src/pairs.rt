@@ -15,7 +15,7 @@ fn check_cascade<K: SlowKind>(rt: &impl Abort, first: Gate, second: Gate) {
     for state in 0..16u32 {
         let reached = run_cascade::<K>(&there, state);
         let expected = K::leads(second, K::leads(first, Values::from(state)));
-        assert_eq!(rt; reached, LineSet::from(expected), "{}", state);
+        assert_eq!(rt; reached, LineSet::from(expected), "{state}");
         assert_eq!(rt; run_cascade::<K>(&back, reached), state);
     }
 }

@@ -2,7 +2,7 @@
 use crate::values::Values;
 use gates::{Fredkin, Gate, GateKind, Toffoli};
 
-// What differs from kind to kind, and what follows from it.
+// What differs from kind to kind, and what follows from it: rules of their own, shared with nothing that is tested.
 pub trait SlowKind: GateKind {
     // Whether the line is a target or an exchanged line of the gate.
     fn is_target(gate: Gate, line: u8) -> bool;

@@ -24,13 +24,13 @@ impl From<Values> for LineSet {
 impl Values {
     // The value of a line, 0 behind the last.
     pub fn at(self, line: u8) -> bool {
-        self.0.get(line as usize).copied().unwrap_or(false)
+        self.0.get(usize::from(line)).copied().unwrap_or(false)
     }
 
     // The values with one line's replaced.
     pub fn with(self, line: u8, value: bool) -> Values {
         let mut changed = self;
-        if let Some(old) = changed.0.get_mut(line as usize) {
+        if let Some(old) = changed.0.get_mut(usize::from(line)) {
             *old = value;
         }
         changed

@@ -1,8 +1,9 @@
 // Driving a store and a list through the same calls, and comparing them after each.
 use crate::kinds::*;
-use crate::model::*;
+use crate::slow_list::*;
 use crate::source::*;
 use gates::Gate;
+use std::fmt;
 use std::process::Abort;
 use stores::{Store, StoreRefusal};
 
@@ -47,6 +48,17 @@ impl Run {
         }
     }
 
+    // The answer is the expected one, which is counted.
+    fn check_answer<T: Copy + PartialEq + fmt::Debug>(
+        &mut self,
+        rt: &impl Abort,
+        answer: Result<T, StoreRefusal>,
+        expected: Result<T, StoreRefusal>,
+    ) {
+        self.tally.count(&expected);
+        assert_eq!(rt; answer, expected);
+    }
+
     // Many calls were answered, and each reason of refusal occurred.
     pub fn check_varied(&self, rt: &impl Abort) {
         assert!(rt; self.tally.answered > 100);
@@ -58,7 +70,7 @@ impl Run {
 
 // The answer with the refusal's number.
 pub fn numbered<T>(answer: Result<T, StoreRefusal>) -> Result<T, u8> {
-    answer.map_err(|refusal| refusal.number())
+    answer.map_err(StoreRefusal::number)
 }
 
 // The store with the gate put in so many times, each before the others.
@@ -74,7 +86,7 @@ pub fn filled<S: Store>(rt: &impl Abort, store: S, gate: Gate, times: u32) -> S 
 #[derive(Drop)]
 pub struct Followed<S> {
     pub store: S,
-    pub model: Model,
+    pub list: SlowList,
 }
 
 impl<S: Store> Followed<S>
@@ -82,19 +94,19 @@ where
     S::Kind: TestKind,
 {
     // The store with the list, which it shows.
-    pub fn new(rt: &impl Abort, store: S, model: Model) -> Followed<S> {
-        let followed = Followed { store, model };
+    pub fn new(rt: &impl Abort, store: S, list: SlowList) -> Followed<S> {
+        let followed = Followed { store, list };
         followed.check_same(rt);
         followed
     }
 
     // The store shows the list, gate for gate, and can hold as many gates.
     fn check_same(&self, rt: &impl Abort) {
-        let count = self.model.count();
+        let count = self.list.count();
         assert_eq!(rt; self.store.lines(), 4);
-        assert_eq!(rt; self.store.capacity(), self.model.capacity);
+        assert_eq!(rt; self.store.capacity(), self.list.capacity);
         assert_eq!(rt; self.store.count(), count);
-        for (place, gate) in self.model.gates().iter().enumerate() {
+        for (place, gate) in self.list.gates().iter().enumerate() {
             assert_eq!(rt; self.store.read(place), Ok(*gate), "place {place}");
         }
         assert_eq!(rt; numbered(self.store.read(count)), Err(9));
@@ -103,20 +115,21 @@ where
     // One call, with the same answer by both.
     fn call(&mut self, rt: &impl Abort, run: &mut Run) {
         let call = run.source.draw() % 8;
-        let place = run.source.draw_place(self.model.count());
+        let place = run.source.draw_place(self.list.count());
         let gate = S::Kind::gate_of(run.source.draw());
-        if call < 4 {
-            let expected = self.model.insert::<S::Kind>(place, gate);
-            run.tally.count(&expected);
-            assert_eq!(rt; self.store.insert(place, gate), expected);
-        } else if call < 6 {
-            let expected = self.model.remove(place);
-            run.tally.count(&expected);
-            assert_eq!(rt; self.store.remove(place), expected);
-        } else {
-            let expected = self.model.overwrite::<S::Kind>(place, gate);
-            run.tally.count(&expected);
-            assert_eq!(rt; self.store.overwrite(place, gate), expected);
+        match call {
+            0..=3 => {
+                let expected = self.list.insert::<S::Kind>(place, gate);
+                run.check_answer(rt, self.store.insert(place, gate), expected);
+            }
+            4..=5 => {
+                let expected = self.list.remove(place);
+                run.check_answer(rt, self.store.remove(place), expected);
+            }
+            _ => {
+                let expected = self.list.overwrite::<S::Kind>(place, gate);
+                run.check_answer(rt, self.store.overwrite(place, gate), expected);
+            }
         }
     }
 
@@ -140,13 +153,13 @@ where
         let mut source = Source::new(8);
         for _ in 0..200u32 {
             let gate = S::Kind::gate_of(source.draw());
-            if self.model.count() < 8 {
-                let expected = self.model.insert::<S::Kind>(0, gate);
+            if self.list.count() < 8 {
+                let expected = self.list.insert::<S::Kind>(0, gate);
                 assert_eq!(rt; self.store.insert(0, gate), expected);
-            } else if self.model.count() > 8 {
-                assert_eq!(rt; self.store.remove(8), self.model.remove(8));
+            } else if self.list.count() > 8 {
+                assert_eq!(rt; self.store.remove(8), self.list.remove(8));
             }
         }
-        assert_eq!(rt; self.model.count(), 8);
+        assert_eq!(rt; self.list.count(), 8);
     }
 }

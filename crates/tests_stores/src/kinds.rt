@@ -1,4 +1,4 @@
-// Slow rules of the two kinds on four lines.
+// Slow rules of the two kinds on four lines, shared with nothing that is tested.
 use gates::{Fredkin, Gate, GateKind, LineSet, Toffoli};
 
 // A line table of four lines.
@@ -30,8 +30,7 @@ impl TestKind for Toffoli {
         Gate {
             a: new_line(table, gate.a),
             b: 0,
-            positive: moved_set(gate.positive, table),
-            negative: moved_set(gate.negative, table),
+            ..moved_controls(gate, table)
         }
     }
 }
@@ -55,8 +54,7 @@ impl TestKind for Fredkin {
         Gate {
             a: one.min(other),
             b: one.max(other),
-            positive: moved_set(gate.positive, table),
-            negative: moved_set(gate.negative, table),
+            ..moved_controls(gate, table)
         }
     }
 }
@@ -91,7 +89,16 @@ fn weight(line: u8) -> LineSet {
 
 // The table's entry for a line; 0 from line 4 on.
 fn new_line(table: Table, line: u8) -> u8 {
-    table.get(line as usize).copied().unwrap_or(0)
+    table.get(usize::from(line)).copied().unwrap_or(0)
+}
+
+// The gate with its controls on the lines that the table gives, and its own lines as they are.
+fn moved_controls(gate: Gate, table: Table) -> Gate {
+    Gate {
+        positive: moved_set(gate.positive, table),
+        negative: moved_set(gate.negative, table),
+        ..gate
+    }
 }
 
 // The set of the new lines of the lines in a set.

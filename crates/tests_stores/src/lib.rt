@@ -1,4 +1,4 @@
-// Tests of the crate `stores`: fixed sequences of calls on piles of mounts, beside a list that is kept by rules written here for the tests alone.
+// Tests of the crate `stores`: fixed sequences of calls on piles of mounts, beside a list that lies in a `FixedList` and is kept by rules written here for the tests alone.
 #![tactic(auto)]
 
 #[cfg(test)]
@@ -8,8 +8,6 @@ mod kinds;
 #[cfg(test)]
 mod makings;
 #[cfg(test)]
-mod model;
-#[cfg(test)]
 mod moves;
 #[cfg(test)]
 mod pile;
@@ -17,5 +15,7 @@ mod pile;
 mod piles;
 #[cfg(test)]
 mod refusals;
+#[cfg(test)]
+mod slow_list;
 #[cfg(test)]
 mod source;

@@ -1,6 +1,6 @@
 // Making stores and mounts: the checks, and what is made where a check refuses.
 use crate::drive::*;
-use crate::model::*;
+use crate::slow_list::*;
 use gates::{Gate, Toffoli};
 use samples::gate;
 use std::process::Abort;

@@ -1,6 +1,6 @@
 // How many records the gap store moves: those between its gap and the place of the edit.
 use crate::drive::*;
-use crate::model::*;
+use crate::slow_list::*;
 use gates::{Gate, Toffoli};
 use samples::gate;
 use stores::{GapStore, Store};

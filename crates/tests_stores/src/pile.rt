@@ -1,7 +1,7 @@
 // Piles of three mounts: how each is put on a store and taken off it, and what every mount in it has to show.
 use crate::drive::*;
 use crate::kinds::*;
-use crate::model::*;
+use crate::slow_list::*;
 use std::process::Abort;
 use stores::{Renamed, Reversed, Store, Window};
 
@@ -18,13 +18,13 @@ pub trait Pile<S: Store> {
     const SEEDS: (u32, u32);
 
     // What the pile shows at first.
-    fn shown(whole: &Model) -> Model;
+    fn shown(whole: &SlowList) -> SlowList;
 
     // The pile on a store, when it shows this list.
-    fn put_on(store: S, model: &Model) -> Self::Top;
+    fn put_on(store: S, list: &SlowList) -> Self::Top;
 
     // Takes the mounts off and compares every list on the way; the store with its list.
-    fn take_off(rt: &impl Abort, pile: Followed<Self::Top>, whole: &Model) -> Followed<S>;
+    fn take_off(rt: &impl Abort, pile: Followed<Self::Top>, whole: &SlowList) -> Followed<S>;
 }
 
 // A window on a reversed mount on a renamed one.
@@ -38,18 +38,18 @@ where
 
     const SEEDS: (u32, u32) = (1, 4);
 
-    fn shown(whole: &Model) -> Model {
+    fn shown(whole: &SlowList) -> SlowList {
         whole.moved::<S::Kind>(THERE).reversed().part(2, 6)
     }
 
-    fn put_on(store: S, model: &Model) -> Self::Top {
-        let end = model.count() + 2;
+    fn put_on(store: S, list: &SlowList) -> Self::Top {
+        let end = list.count() + 2;
         Window::new(Reversed::new(Renamed::new(store, &THERE)), 2, end)
     }
 
-    fn take_off(rt: &impl Abort, pile: Followed<Self::Top>, whole: &Model) -> Followed<S> {
+    fn take_off(rt: &impl Abort, pile: Followed<Self::Top>, whole: &SlowList) -> Followed<S> {
         let list = whole.moved::<S::Kind>(THERE).reversed();
-        let list = list.with_part(2, 6, &pile.model);
+        let list = list.with_part(2, 6, &pile.list);
         let reversed = Followed::new(rt, pile.store.into_below(), list).store;
         let list = list.reversed();
         let renamed = Followed::new(rt, reversed.into_below(), list).store;
@@ -68,17 +68,17 @@ where
 
     const SEEDS: (u32, u32) = (2, 5);
 
-    fn shown(whole: &Model) -> Model {
+    fn shown(whole: &SlowList) -> SlowList {
         whole.reversed().part(1, 5).moved::<S::Kind>(THERE)
     }
 
-    fn put_on(store: S, model: &Model) -> Self::Top {
-        let end = model.count() + 1;
+    fn put_on(store: S, list: &SlowList) -> Self::Top {
+        let end = list.count() + 1;
         Renamed::new(Window::new(Reversed::new(store), 1, end), &THERE)
     }
 
-    fn take_off(rt: &impl Abort, pile: Followed<Self::Top>, whole: &Model) -> Followed<S> {
-        let part = pile.model.moved::<S::Kind>(BACK);
+    fn take_off(rt: &impl Abort, pile: Followed<Self::Top>, whole: &SlowList) -> Followed<S> {
+        let part = pile.list.moved::<S::Kind>(BACK);
         let window = Followed::new(rt, pile.store.into_below(), part).store;
         let list = whole.reversed().with_part(1, 5, &part);
         let reversed = Followed::new(rt, window.into_below(), list).store;
@@ -97,18 +97,18 @@ where
 
     const SEEDS: (u32, u32) = (3, 6);
 
-    fn shown(whole: &Model) -> Model {
+    fn shown(whole: &SlowList) -> SlowList {
         whole.part(1, 7).reversed().part(3, 3)
     }
 
-    fn put_on(store: S, model: &Model) -> Self::Top {
-        let inner_end = model.count() + 7;
-        let end = model.count() + 3;
+    fn put_on(store: S, list: &SlowList) -> Self::Top {
+        let inner_end = list.count() + 7;
+        let end = list.count() + 3;
         Window::new(Reversed::new(Window::new(store, 1, inner_end)), 3, end)
     }
 
-    fn take_off(rt: &impl Abort, pile: Followed<Self::Top>, whole: &Model) -> Followed<S> {
-        let list = whole.part(1, 7).reversed().with_part(3, 3, &pile.model);
+    fn take_off(rt: &impl Abort, pile: Followed<Self::Top>, whole: &SlowList) -> Followed<S> {
+        let list = whole.part(1, 7).reversed().with_part(3, 3, &pile.list);
         let reversed = Followed::new(rt, pile.store.into_below(), list).store;
         let part = list.reversed();
         let window = Followed::new(rt, reversed.into_below(), part).store;

@@ -1,8 +1,8 @@
 // All piles over both stores, for both kinds: driven whole, and taken apart after each call, so that the gates outside every window are seen.
 use crate::drive::*;
 use crate::kinds::*;
-use crate::model::*;
 use crate::pile::*;
+use crate::slow_list::*;
 use gates::{Fredkin, Toffoli};
 use std::process::Abort;
 use stores::{GapStore, PlainStore, Store};
@@ -17,9 +17,9 @@ where
 {
     let mut below = followed;
     below.refill(rt);
-    let whole = below.model;
-    let model = P::shown(&whole);
-    let mut pile = Followed::new(rt, P::put_on(below.store, &model), model);
+    let whole = below.list;
+    let list = P::shown(&whole);
+    let mut pile = Followed::new(rt, P::put_on(below.store, &list), list);
     pile.drive(rt, P::SEEDS.0);
     P::take_off(rt, pile, &whole)
 }
@@ -31,13 +31,13 @@ where
 {
     let mut below = followed;
     below.refill(rt);
-    let whole = below.model;
-    let mut model = P::shown(&whole);
+    let whole = below.list;
+    let mut list = P::shown(&whole);
     let mut run = Run::new(P::SEEDS.1);
     for _ in 0..STEPS {
-        let mut pile = Followed::new(rt, P::put_on(below.store, &model), model);
+        let mut pile = Followed::new(rt, P::put_on(below.store, &list), list);
         pile.step(rt, &mut run);
-        model = pile.model;
+        list = pile.list;
         below = P::take_off(rt, pile, &whole);
     }
     run.check_varied(rt);
@@ -49,7 +49,7 @@ fn check_piles<S: Store + Drop>(rt: &impl Abort, store: S)
 where
     S::Kind: TestKind,
 {
-    let below = Followed::new(rt, store, Model::new(RECORDS));
+    let below = Followed::new(rt, store, SlowList::new(RECORDS));
     let below = check_whole::<S, WindowOnTop>(rt, below);
     let below = check_whole::<S, WindowBetween>(rt, below);
     let below = check_whole::<S, WindowInWindow>(rt, below);

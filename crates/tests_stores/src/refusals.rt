@@ -1,6 +1,6 @@
 // The order of refusals, on each store and mount: 9, then 2, then 3.
 use crate::drive::*;
-use crate::model::*;
+use crate::slow_list::*;
 use gates::{Gate, Toffoli};
 use samples::gate;
 use std::process::Abort;

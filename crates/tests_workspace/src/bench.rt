@@ -6,6 +6,7 @@ use stores::{Store, StoreRefusal};
 use workspace::{PositionSet, Proposal, TemplateRefusal, Workspace};
 
 // A workspace of Toffoli gates whose policy takes the earliest, and the handle by which a test ends; a refusal is told by its number.
+// The program's `Shelving` prints each answer where this gives it back: what the two share is how a proposal is put together.
 #[derive(Drop)]
 pub struct Bench<'a, R, S> {
     rt: &'a R,
@@ -68,6 +69,7 @@ impl<'a, R: Abort, S: Store<Kind = Toffoli>> Bench<'a, R, S> {
     pub fn check_entries(&self, count: usize) {
         let workspace = &self.workspace;
         assert_eq!(self.rt; workspace.entry_count(), count);
+        // Entries are asked for by number: a workspace lends no list.
         for entry in 0..count {
             assert_eq!(self.rt; workspace.replacements(entry), Ok(0), "{entry}");
         }

@@ -7,8 +7,11 @@ use std::process::Abort;
 use stores::{PlainStore, Store};
 
 // Three are shelved, the middle one is withdrawn, and the numbers close up.
-fn check_withdrawing<S: Store<Kind = Toffoli> + Drop>(rt: &impl Abort, store: S) {
-    let mut bench = Bench::new(rt, store);
+#[test]
+fn withdrawing(rt: HostRuntime) {
+    let mut records = [T0; 1];
+    let store: PlainStore<Toffoli> = PlainStore::new(&mut records, 2);
+    let mut bench = Bench::new(&rt, store);
     bench.check_entries(0);
     assert_eq!(rt; bench.withdraw(0), Err(9));
     assert_eq!(rt; bench.shelve(1, &[T0, T0], &[]), Ok(()));
@@ -24,13 +27,6 @@ fn check_withdrawing<S: Store<Kind = Toffoli> + Drop>(rt: &impl Abort, store: S)
     assert_eq!(rt; bench.withdraw(1), Ok(()));
     assert_eq!(rt; bench.withdraw(0), Ok(()));
     bench.check_entries(0);
-}
-
-// The same on a plain store.
-#[test]
-fn withdrawing(rt: HostRuntime) {
-    let mut records = [T0; 1];
-    check_withdrawing::<PlainStore<Toffoli>>(&rt, PlainStore::new(&mut records, 2));
 }
 
 // A workspace whose shelf is filled with pairs.
@@ -53,8 +49,11 @@ const REFUSED: [(u8, &[Gate], u8); 5] = [
 ];
 
 // A full shelf refuses these; when one is withdrawn there is room for one.
-fn check_full_shelf<S: Store<Kind = Toffoli> + Drop>(rt: &impl Abort, store: S) {
-    let mut bench = filled(rt, store);
+#[test]
+fn full_shelf(rt: HostRuntime) {
+    let mut records = [T0; 1];
+    let store: PlainStore<Toffoli> = PlainStore::new(&mut records, 1);
+    let mut bench = filled(&rt, store);
     for (lines, gates, number) in REFUSED {
         assert_eq!(rt; bench.shelve(lines, gates, &[]), Err(number));
     }
@@ -64,32 +63,24 @@ fn check_full_shelf<S: Store<Kind = Toffoli> + Drop>(rt: &impl Abort, store: S) 
     assert_eq!(rt; bench.shelve(2, &[T1, T1], &[]), Err(4));
 }
 
-// The same on a plain store.
-#[test]
-fn full_shelf(rt: HostRuntime) {
-    let mut records = [T0; 1];
-    check_full_shelf::<PlainStore<Toffoli>>(&rt, PlainStore::new(&mut records, 1));
-}
-
 // On a full shelf, the refusals of groups come before 4, too.
-fn check_groups_on_full_shelf<S: Store<Kind = Toffoli> + Drop>(rt: &impl Abort, store: S) {
-    let mut bench = filled(rt, store);
+#[test]
+fn groups_on_full_shelf(rt: HostRuntime) {
+    let mut records = [T0; 1];
+    let store: PlainStore<Toffoli> = PlainStore::new(&mut records, 1);
+    let mut bench = filled(&rt, store);
     for (group, number) in [(1, 7), (10, 4), (7, 8)] {
         assert_eq!(rt; bench.shelve(1, &[T0; 4], &[group]), Err(number), "{group}");
     }
     bench.check_entries(64);
 }
 
-// The same on a plain store.
+// Gates are appended behind one another where there is room for two: 2 comes before 3, and a refusal leaves the list.
 #[test]
-fn groups_on_full_shelf(rt: HostRuntime) {
-    let mut records = [T0; 1];
-    check_groups_on_full_shelf::<PlainStore<Toffoli>>(&rt, PlainStore::new(&mut records, 1));
-}
-
-// Gates are appended behind one another: 2 comes before 3, and a refusal leaves the list.
-fn check_appending<S: Store<Kind = Toffoli> + Drop>(rt: &impl Abort, store: S) {
-    let mut bench = Bench::new(rt, store);
+fn appending(rt: HostRuntime) {
+    let mut records = [T3; 2];
+    let store: PlainStore<Toffoli> = PlainStore::new(&mut records, 2);
+    let mut bench = Bench::new(&rt, store);
     assert_eq!(rt; bench.gate(0), Err(9));
     assert_eq!(rt; bench.append(T0_1), Ok(()));
     assert_eq!(rt; bench.append(T3), Err(2));
@@ -101,11 +92,4 @@ fn check_appending<S: Store<Kind = Toffoli> + Drop>(rt: &impl Abort, store: S) {
     assert_eq!(rt; bench.gate(2), Err(9));
     let (store, _) = bench.workspace.into_parts();
     assert_eq!(rt; store.count(), 2);
-}
-
-// The same on a plain store with room for two gates.
-#[test]
-fn appending(rt: HostRuntime) {
-    let mut records = [T3; 2];
-    check_appending::<PlainStore<Toffoli>>(&rt, PlainStore::new(&mut records, 2));
 }

@@ -19,24 +19,33 @@ pub const JUNK: Gate = Gate {
 // How many gates a list has at most, whatever its capacity.
 const MOST: usize = 64;
 
+// A gate that is not well formed for four lines is refused.
+fn check_formed<K: TestKind>(gate: Gate) -> Result<(), GateRefusal> {
+    if K::is_formed(gate) {
+        Ok(())
+    } else {
+        Err(GateRefusal::NotWellFormed)
+    }
+}
+
 // The gates of a list, and how many it can have.
 #[derive(Clone, Copy)]
-pub struct Model {
+pub struct SlowList {
     list: FixedList<Gate, MOST>,
     pub capacity: usize,
 }
 
-impl Model {
+impl SlowList {
     // An empty list of so many gates at most.
-    pub fn new(capacity: usize) -> Model {
-        Model {
+    pub fn new(capacity: usize) -> SlowList {
+        SlowList {
             list: FixedList::new(JUNK),
             capacity,
         }
     }
 
     // The list of these gates, with the capacity of this one.
-    fn listed<I: Iterator<Item = Gate> + Drop>(&self, gates: I) -> Model
+    fn listed<I: Iterator<Item = Gate> + Drop>(&self, gates: I) -> SlowList
         requires can { I.can_next gates }
         requires ends { IsFinite (I.remaining gates) }
     {
@@ -44,7 +53,7 @@ impl Model {
         for gate in gates {
             let _ = list.push(gate);
         }
-        Model {
+        SlowList {
             list,
             capacity: self.capacity,
         }
@@ -67,9 +76,7 @@ impl Model {
         if place >= self.count() {
             return Err(StoreRefusal::NoSuchPlace);
         }
-        if !K::is_formed(gate) {
-            return Err(StoreRefusal::Gate(GateRefusal::NotWellFormed));
-        }
+        check_formed::<K>(gate)?;
         self.list.change(place, |old| *old = gate);
         Ok(())
     }
@@ -79,9 +86,7 @@ impl Model {
         if place > self.count() {
             return Err(StoreRefusal::NoSuchPlace);
         }
-        if !K::is_formed(gate) {
-            return Err(StoreRefusal::Gate(GateRefusal::NotWellFormed));
-        }
+        check_formed::<K>(gate)?;
         if self.count() >= self.capacity {
             return Err(StoreRefusal::Full);
         }
@@ -97,27 +102,27 @@ impl Model {
     }
 
     // The list last to first; each gate of either kind is its own inverse.
-    pub fn reversed(&self) -> Model {
+    pub fn reversed(&self) -> SlowList {
         self.listed(self.gates().iter().rev().copied())
     }
 
     // The list with each gate on the lines that the table gives.
-    pub fn moved<K: TestKind>(&self, table: Table) -> Model {
+    pub fn moved<K: TestKind>(&self, table: Table) -> SlowList {
         self.listed(self.gates().iter().map(|gate| K::moved(*gate, table)))
     }
 
     // The list from one place to before another, which can grow as far as the whole list can.
-    pub fn part(&self, from: usize, to: usize) -> Model {
+    pub fn part(&self, from: usize, to: usize) -> SlowList {
         let part = self.listed(self.gates().iter().copied().take(to).skip(from));
         let others = self.count().saturating_sub(part.count());
-        Model {
+        SlowList {
             capacity: self.capacity.saturating_sub(others),
             ..part
         }
     }
 
     // The list with another in the place of that part.
-    pub fn with_part(&self, from: usize, to: usize, part: &Model) -> Model {
+    pub fn with_part(&self, from: usize, to: usize, part: &SlowList) -> SlowList {
         let before = self.gates().iter().take(from);
         let behind = self.gates().iter().skip(to);
         self.listed(before.chain(part.gates()).chain(behind).copied())
