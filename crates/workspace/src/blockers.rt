@@ -11,12 +11,10 @@ use std::array;
 fn blockers_of<K: GateKind>(gates: &[Gate], distance: usize) -> u64
     ensures { distance < length gates.now → IsSet result (blocks K.means gates.now distance) }
 {
-    match gates.get(distance) {
-        None => 0,
-        Some(gate) => {
-            distances_where(&gates[..distance], |before| !K::interchange(before, *gate))
-        }
-    }
+    let Some(gate) = gates.get(distance) else {
+        return 0;
+    };
+    distances_where(&gates[..distance], |before| !K::interchange(before, *gate))
 }
 
 // For each gate the distances of those that block it.

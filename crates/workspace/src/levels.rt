@@ -58,10 +58,9 @@ pub(crate) fn next_pose(template: &Template, level: usize) -> u64
 fn is_mapped(key: &Key, x: u8) -> bool
     ensures { result ≡ has_number_lem (drop 6 (keyed key.now)) x }
 {
-    match key.as_slice().get(BEFORE_MAP..) {
-        None => false,
-        Some(images) => images.contains(&(x as u16)),
-    }
+    key.as_slice()
+        .get(BEFORE_MAP..)
+        .is_some_and(|images| images.contains(&u16::from(x)))
 }
 
 // Whether the image of the gate can still stand somewhere, where line x is the image of the line.
@@ -109,8 +108,8 @@ pub(crate) fn next_places<K: GateKind>(
 ) -> u64
     ensures { IsSet result (λ d. bit (image_at note.now place).reached d && (nat_lt d (length (contents start.now.frame)) && (nat_lt last d && movable K.means (contents start.now.frame) note.now.chosen d))) }
 {
-    match note.images.as_slice().get(place) {
-        None => 0,
-        Some(image) => image.reached & eligible(start, note.chosen, last),
-    }
+    let Some(image) = note.images.as_slice().get(place) else {
+        return 0;
+    };
+    image.reached & eligible(start, note.chosen, last)
 }

@@ -108,15 +108,10 @@ impl<S: Store> Problem for Holdings<S> {
     }
 
     fn is_whole(&self, start: &Start<S::Kind>, note: &Note, key: &Key) -> bool {
-        if key.len() < BEFORE_MAP {
-            return false;
-        }
-        match self.template_of_key(key) {
-            None => true,
-            Some(template) => {
-                key.len() + key.at(2) as usize >= WHOLE + template.lines() as usize
-            }
-        }
+        key.len() >= BEFORE_MAP
+            && self.template_of_key(key).is_none_or(|template| {
+                key.len() + usize::from(key.at(2)) >= WHOLE + usize::from(template.lines())
+            })
     }
 
     fn candidates(&self, start: &Start<S::Kind>, note: &Note, key: &Key) -> u64 {
