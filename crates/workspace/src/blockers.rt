@@ -19,7 +19,7 @@ fn blockers_of<K: GateKind>(gates: &[Gate], distance: usize) -> u64
 
 // For each gate the distances of those that block it.
 pub(crate) fn all_blockers<K: GateKind>(gates: &[Gate]) -> [u64; REACH]
-    ensures { (d : ℕ) → d < 32 → d < length gates.now → IsSet (slice_index result d) (blocks K.means gates.now d) }
+    ensures { (d : ℕ) → d < REACH → d < length gates.now → IsSet (slice_index result d) (blocks K.means gates.now d) }
 {
     array::from_fn(|distance| blockers_of::<K>(gates, distance))
 }

@@ -14,12 +14,12 @@ use super::notes::{Image, Note};
 use super::numbers::numbers_where;
 use super::start::{Start, eligible};
 use super::template::{MOST_GATES, MOST_LINES};
-use gates::GateKind;
+use gates::{GateKind, WIDTH};
 use search::{Key, candidates};
 
 // The numbers 8 - k of those k that are more than half of the size and no more than the size.
 pub(crate) fn next_shares(size: usize) -> u64
-    ensures { IsSet result (λ v. nat_lt v 8 && (nat_lt size (2 * (8 - v)) && nat_le (8 - v) size)) }
+    ensures { IsSet result (λ v. nat_lt v MOST_GATES && (nat_lt size (2 * (MOST_GATES - v)) && nat_le (MOST_GATES - v) size)) }
 {
     numbers_where(MOST_GATES, |share| {
         size < 2 * (MOST_GATES - share) && MOST_GATES - share <= size
@@ -28,7 +28,7 @@ pub(crate) fn next_shares(size: usize) -> u64
 
 // The sets of lines, as numbers, that can be flipped of so many lines.
 fn next_flips(lines: u8) -> u64
-    ensures { lines ≤ 4 → IsSet result (λ v. ltb v (2 ^ lines)) }
+    ensures { lines ≤ MOST_LINES → IsSet result (λ v. ltb v (2 ^ lines)) }
 {
     if lines <= MOST_LINES {
         candidates::numbers_below(1_usize << lines)
@@ -40,10 +40,10 @@ fn next_flips(lines: u8) -> u64
 // The numbers that can come next before the template is posed, by how many there are already.
 pub(crate) fn next_pose(template: &Template, level: usize) -> u64
     ensures shares { level ≡ 2
-        → IsSet result (λ v. nat_lt v 8 && (nat_lt (length (template_of template.now).gates) (2 * (8 - v)) && nat_le (8 - v) (length (template_of template.now).gates))) }
+        → IsSet result (λ v. nat_lt v MOST_GATES && (nat_lt (length (template_of template.now).gates) (2 * (MOST_GATES - v)) && nat_le (MOST_GATES - v) (length (template_of template.now).gates))) }
     ensures directions { level ≡ 3 → IsSet result (λ v. ltb v 2) }
     ensures rotations { level ≡ 4 → IsSet result (λ v. ltb v (length (template_of template.now).gates)) }
-    ensures flips { level ≡ 5 → (template_of template.now).lines ≤ 4 → IsSet result (λ v. ltb v (2 ^ (template_of template.now).lines)) }
+    ensures flips { level ≡ 5 → (template_of template.now).lines ≤ MOST_LINES → IsSet result (λ v. ltb v (2 ^ (template_of template.now).lines)) }
 {
     match level {
         2 => next_shares(template.gates().len()),
@@ -56,7 +56,7 @@ pub(crate) fn next_pose(template: &Template, level: usize) -> u64
 
 // Whether line x is the image of a line already.
 fn is_mapped(key: &Key, x: u8) -> bool
-    ensures { result ≡ has_number_lem (drop 6 (keyed key.now)) x }
+    ensures { result ≡ has_number_lem (drop BEFORE_MAP (keyed key.now)) x }
 {
     key.as_slice()
         .get(BEFORE_MAP..)
@@ -90,10 +90,10 @@ pub(crate) fn next_lines<K: GateKind>(
     line: u8,
     lines: u8,
 ) -> u64
-    ensures { lines ≤ 32
-        → IsSet result (λ x. nat_lt x lines && (not (has_number_lem (drop 6 (keyed key.now)) x) && possible K.means (contents start.now.frame) note.now few line x)) }
+    ensures { lines ≤ WIDTH
+        → IsSet result (λ x. nat_lt x lines && (not (has_number_lem (drop BEFORE_MAP (keyed key.now)) x) && possible K.means (contents start.now.frame) note.now few line x)) }
 {
-    numbers_where(lines as usize, |x| {
+    numbers_where(usize::from(lines), |x| {
         let x = x as u8;
         !is_mapped(key, x) && is_possible::<K>(start, note, few, line, x)
     })

@@ -29,6 +29,7 @@ pub struct Start<K: GateKind> {
 }
 
 // A copy is a clone.
+// By hand: a derive is refused beside a ghost field.
 impl<K: GateKind> Clone for Start<K> {
     ghost is_clone = { λ start copy. copy ≡ start };
 
@@ -67,7 +68,7 @@ pub(crate) fn role_set<K: GateKind>(start: &Start<K>, gate: Gate, line: u8, x: u
     if x >= WIDTH {
         return 0;
     }
-    let roles = start.roles[x as usize];
+    let roles = start.roles[usize::from(x)];
     let positive = agreeing(roles.positive, sets::has_line(gate.positive, line));
     let negative = agreeing(roles.negative, sets::has_line(gate.negative, line));
     let targets = agreeing(roles.targets, sets::has_line(K::targets(gate), line));

@@ -1,9 +1,9 @@
-use Rattle.std.proofs.Common.{ℕ, get_or, sym, ap, ◌∙◌, arith}
+use Rattle.std.proofs.Common.{ℕ, get_or, sym, ap, ◌∙◌, subst, arith}
 use mathlib.Core.Bool.{beq}
 use Rattle.fixed_list.specs.Lists.{contents}
 use Rattle.gates.specs.Lines.{bit}
 use Rattle.workspace.proofs.Starting.{roles_agree}
-use Rattle.workspace.specs.Starts.{no_roles}
+use Rattle.workspace.specs.Starts.{HasRoles, no_roles}
 use Rattle.workspace.proofs.start.role_set.Goals as goal
 
 pub returns-then-x-ge-WIDTH : goal.returns-then-x-ge-WIDTH
@@ -12,8 +12,10 @@ returns-then-x-ge-WIDTH g c l = absurd (let z : ⊥ = omega (arith, c.if-x-ge-WI
 pub returns : goal.returns
 returns g c l =
     let s = c.args.start.now in
-    let has = get_or s.roles c.args.x no_roles in
-    roles_agree g.K.GateKind.means (contents s.frame) c.len.result c.len.ensures.few (sym c.len.ensures.is) s.blockers s.roles s.known c.args.gate c.args.line c.args.x c.numbers_below.result c.agreeing-positive.result c.agreeing-negative.result c.agreeing-targets.result has (s.known.roles c.args.x l)
+    let has = get_or s.roles c.from.result no_roles in
+    let roles : HasRoles g.K.GateKind.means (contents s.frame) c.args.x has =
+    subst (λ (y : ℕ). HasRoles g.K.GateKind.means (contents s.frame) c.args.x (get_or s.roles y no_roles)) (sym c.from.ensures) (s.known.roles c.args.x l) in
+    roles_agree g.K.GateKind.means (contents s.frame) c.len.result c.len.ensures.few (sym c.len.ensures.is) s.blockers s.roles s.known c.args.gate c.args.line c.args.x c.numbers_below.result c.agreeing-positive.result c.agreeing-negative.result c.agreeing-targets.result has roles
     c.numbers_below.ensures
     (λ i il. c.agreeing-positive.ensures i il ∙ ap (beq (bit has.positive i)) c.has_line.ensures)
     (λ i il. c.agreeing-negative.ensures i il ∙ ap (beq (bit has.negative i)) c.has_line-2.ensures)

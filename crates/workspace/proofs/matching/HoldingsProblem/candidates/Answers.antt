@@ -61,8 +61,8 @@ returns-in-Some-checked_sub g c fits v rest e =
     let frame : contents c.args.start.now.frame ≡ frame_at gates o.first = fits.first.frame ∙ ap (frame_at gates) (number_at k held key o n.begun 0 (omega arith)) in
     let below = line_below k held sound key v n i long inside in
     let can = line_possible k held g.met.S.Kind.GateKind.lawful sound key v n note (fits.whole (omega arith) o n.begun) few i c.named_places.ensures long inside in
-    c.next_lines.ensures (omega (arith, c.lines.ensures, bounded.few_lines)) v (omega (arith, below, bounded.few_lines))
-    ∙ and_from (ltb v c.lines.result) _ (lt-ltb v c.lines.result (omega (arith, below, c.lines.ensures)))
+    c.next_lines.ensures (omega (arith, c.lines-in-Some-checked_sub.ensures, bounded.few_lines)) v (omega (arith, below, bounded.few_lines))
+    ∙ and_from (ltb v c.lines-in-Some-checked_sub.result) _ (lt-ltb v c.lines-in-Some-checked_sub.result (omega (arith, below, c.lines-in-Some-checked_sub.ensures)))
     (and_from (not (has_number_lem (drop 6 key) v)) _ (not_from_false (has_number_lem (drop 6 key) v) (line_new k held sound key v n i long inside))
     (subst (λ (gs : List Gate). possible k gs note few i v ≡ true) (sym frame) can))
 
@@ -78,12 +78,12 @@ returns-in-Some-2 g c fits v rest e =
     let o = n.o in
     let last = c.last_distance-last.result in
     let e-lines = (get_or held.shelf o.number no_entry).template.lines in
-    let lines : c.lines-lines.result ≡ e-lines =
-    c.lines-lines.ensures ∙ ap (λ (x : TemplateMeaning). x.lines) (template_is k held key o n.begun (omega arith) (template_of c.in-Some.template.now) c.in-Some.ensures.1) in
-    let j = length key - (6 + c.lines-lines.result) in
+    let lines : c.from-lines.result ≡ e-lines =
+    c.from-lines.ensures ∙ c.lines.ensures ∙ ap (λ (x : TemplateMeaning). x.lines) (template_is k held key o n.begun (omega arith) (template_of c.in-Some.template.now) c.in-Some.ensures.1) in
+    let j = length key - (6 + c.from-lines.result) in
     let long : length key ≡ 6 + e-lines + j = omega arith in
     let frame : contents c.args.start.now.frame ≡ frame_at gates o.first = fits.first.frame ∙ ap (frame_at gates) (number_at k held key o n.begun 0 (omega arith)) in
-    let place : c.in-Some-checked_sub.line - c.lines-lines.result + 1 ≡ suc j = omega arith in
+    let place : c.in-Some-checked_sub.line - c.from-lines.result + 1 ≡ suc j = omega arith in
     let h = place_next k held g.met.S.Kind.GateKind.lawful sound key v n note (fits.whole (omega arith) o n.begun) j last long
     (c.last_distance-last.ensures ∙ ap (λ (l : ℕ). get_or (0 ∷ drop (6 + l) key) j 0) lines ∙ last_is k held key o n.begun j long) in
     c.next_places.ensures v h.0

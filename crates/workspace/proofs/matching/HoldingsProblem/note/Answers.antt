@@ -20,12 +20,12 @@ returns-in-Some-eq0 g c sound prefix v is started above six o b =
     let held = condition_of g.S.Store.means c.args.self.now in
     let key = keyed c.args.key.now in
     let t = template_of c.in-Some.template.now in
-    posed_fits k held sound.sound key prefix v is o b c.posed_note.result _ c.at-in-Some-eq0.result c.at-in-Some-eq0-2.result t (omega arith)
+    posed_fits k held sound.sound key prefix v is o b c.posed_note.result _ c.from.result c.from-in-Some-eq0.result t (omega arith)
     (template_is k held key o b (omega arith) t c.in-Some.ensures.1)
-    (ap (λ (x : ℕ). eqb x 1) c.at.ensures) c.at-in-Some-eq0.ensures c.at-in-Some-eq0-2.ensures c.posed_note.ensures.poses c.posed_note.ensures.reaches c.posed_note.ensures.chooses
+    (ap (λ (x : ℕ). eqb x 1) c.at.ensures) (c.from.ensures ∙ c.at-in-Some-eq0.ensures) (c.from-in-Some-eq0.ensures ∙ c.at-in-Some-eq0-2.ensures) c.posed_note.ensures.poses c.posed_note.ensures.reaches c.posed_note.ensures.chooses
 
-pub returns-then-line-lines : goal.returns-then-line-lines
-returns-then-line-lines g c sound prefix v is started above six o b =
+pub returns-then-line-from : goal.returns-then-line-from
+returns-then-line-from g c sound prefix v is started above six o b =
     let k = g.S.Kind.GateKind.means in
     let held = condition_of g.S.Store.means c.args.self.now in
     let key = keyed c.args.key.now in
@@ -36,10 +36,10 @@ returns-then-line-lines g c sound prefix v is started above six o b =
     let old = c.args.above.now in
     place_fits k held sound.sound key prefix v is o b g.met.S.Kind.GateKind.lawful old note (above (omega (arith, one_more k held sound.sound key prefix v is o b)) o (begun_before k held sound.sound key prefix v is o b))
     (omega (arith, lines)) c.with_distance.ensures.keeps
-    (subst (λ (x : ℕ). IsSet note.chosen (λ d. eqb d x || bit old.chosen d)) last c.with_distance.ensures.chooses)
+    (subst (λ (x : ℕ). IsSet note.chosen (λ d. eqb d x || bit old.chosen d)) (c.from-then-line-from.ensures ∙ last) c.with_distance.ensures.chooses)
 
-pub returns-then-last : goal.returns-then-last
-returns-then-last g c sound prefix v is started above six o b =
+pub returns-then-last-from : goal.returns-then-last-from
+returns-then-last-from g c sound prefix v is started above six o b =
     let k = g.S.Kind.GateKind.means in
     let held = condition_of g.S.Store.means c.args.self.now in
     let key = keyed c.args.key.now in
@@ -49,8 +49,8 @@ returns-then-last g c sound prefix v is started above six o b =
     let small = line_small k held sound.sound key prefix v is o b i (omega arith) (omega (arith, lines)) in
     absurd (let z : ⊥ = omega (arith, small, last, (g.S.Store.bounded c.args.self.now.store).few_lines) in z)
 
-pub returns-else-last : goal.returns-else-last
-returns-else-last g c sound prefix v is started above six o b =
+pub returns-else-last-from : goal.returns-else-last-from
+returns-else-last-from g c sound prefix v is started above six o b =
     let k = g.S.Kind.GateKind.means in
     let held = condition_of g.S.Store.means c.args.self.now in
     let gates = held.store.gates in
