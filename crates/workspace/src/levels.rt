@@ -1,5 +1,5 @@
 // The numbers that can come next in a key, one function for each part of a key.
-ghost use Rattle.std.specs.Prelude.{◌≡◌, ℕ, ◌-◌, ◌*◌, ◌^◌, ◌<◌, ◌≤◌, not, ◌&&◌, ltb, List, length, drop, nat_le, nat_lt};
+ghost use Rattle.std.specs.Prelude.{◌≡◌, ℕ, ◌-◌, ◌*◌, ◌^◌, ◌≤◌, not, ◌&&◌, ltb, List, length, drop, nat_le, nat_lt};
 ghost use Rattle.fixed_list.specs.Lists.{contents};
 ghost use Rattle.gates.specs.Lines.{bit};
 ghost use Rattle.search.specs.Keys.{keyed};
@@ -9,10 +9,11 @@ ghost use Rattle.workspace.specs.Starts.{IsSet, movable};
 ghost use Rattle.workspace.specs.TurnTests.{has_number_lem};
 
 use super::Template;
+use super::line::Line;
 use super::named::BEFORE_MAP;
 use super::notes::{Image, Note};
 use super::numbers::numbers_where;
-use super::start::{Start, eligible};
+use super::start::Start;
 use super::template::{MOST_GATES, MOST_LINES};
 use gates::{GateKind, WIDTH};
 use search::{Key, candidates};
@@ -55,24 +56,24 @@ pub(crate) fn next_pose(template: &Template, level: usize) -> u64
 }
 
 // Whether line x is the image of a line already.
-fn is_mapped(key: &Key, x: u8) -> bool
-    ensures { result ≡ has_number_lem (drop BEFORE_MAP (keyed key.now)) x }
+fn is_mapped(key: &Key, x: &Line) -> bool
+    ensures { result ≡ has_number_lem (drop BEFORE_MAP (keyed key.now)) x.now.number }
 {
     key.as_slice()
         .get(BEFORE_MAP..)
-        .is_some_and(|images| images.contains(&u16::from(x)))
+        .is_some_and(|images| images.contains(&u16::from(x.number)))
 }
 
 // Whether the image of the gate can still stand somewhere, where line x is the image of the line.
-fn can_still_stand<K: GateKind>(start: &Start<K>, image: Image, line: u8, x: u8) -> bool
-    ensures { x < 32 → result ≡ some_of image.reached (can_stand K.means (contents start.now.frame) image.member.gate line x) }
+fn can_still_stand<K: GateKind>(start: &Start<K>, image: Image, line: u8, x: &Line) -> bool
+    ensures { result ≡ some_of image.reached (can_stand K.means (contents start.now.frame) image.member.gate line x.now.number) }
 {
     image.narrowed::<K>(start, line, x).reached != 0
 }
 
 // Whether each of the first few gates can still stand somewhere, where line x is the image of the line.
-fn is_possible<K: GateKind>(start: &Start<K>, note: &Note, few: usize, line: u8, x: u8) -> bool
-    ensures { x < 32 → result ≡ possible K.means (contents start.now.frame) note.now few line x }
+fn is_possible<K: GateKind>(start: &Start<K>, note: &Note, few: usize, line: u8, x: &Line) -> bool
+    ensures { result ≡ possible K.means (contents start.now.frame) note.now few line x.now.number }
 {
     note.images
         .as_slice()
@@ -94,8 +95,9 @@ pub(crate) fn next_lines<K: GateKind>(
         → IsSet result (λ x. nat_lt x lines && (not (has_number_lem (drop BEFORE_MAP (keyed key.now)) x) && possible K.means (contents start.now.frame) note.now few line x)) }
 {
     numbers_where(usize::from(lines), |x| {
-        let x = x as u8;
-        !is_mapped(key, x) && is_possible::<K>(start, note, few, line, x)
+        Line::try_from(x).is_ok_and(|x| {
+            !is_mapped(key, &x) && is_possible::<K>(start, note, few, line, &x)
+        })
     })
 }
 
@@ -111,5 +113,5 @@ pub(crate) fn next_places<K: GateKind>(
     let Some(image) = note.images.as_slice().get(place) else {
         return 0;
     };
-    image.reached & eligible(start, note.chosen, last)
+    image.reached & start.eligible(note.chosen, last)
 }

@@ -7,14 +7,15 @@ ghost use Rattle.workspace.specs.Notes.{Noted};
 ghost use Rattle.workspace.specs.Firsts.{Started};
 ghost use Rattle.workspace.specs.Shelves.{IsNumbered, entries_of};
 
+use super::line::Line;
 use super::named::BEFORE_MAP;
-use super::notes::{NO_IMAGE, Note};
+use super::notes::{Image, Note};
 use super::occurs::is_occurrence;
 use super::start::{Start, start_at};
 use super::template::MOST_GATES;
 use super::{Holdings, Template, levels, noting};
 use fixed_list::FixedList;
-use gates::{LineSet, WIDTH};
+use gates::LineSet;
 use search::{Key, Problem, Shown, candidates};
 use stores::Store;
 
@@ -76,7 +77,7 @@ impl<S: Store> Problem for Holdings<S> {
 
     fn blank(&self) -> Note {
         Note {
-            images: FixedList::new(NO_IMAGE),
+            images: FixedList::new(Image::BLANK),
             chosen: 0,
         }
     }
@@ -95,13 +96,13 @@ impl<S: Store> Problem for Holdings<S> {
             ),
             Some(behind) => {
                 let line = behind - 1;
-                let last = key.at(BEFORE_MAP + line);
+                let last = usize::from(key.at(BEFORE_MAP + line));
                 if line >= usize::from(template.lines()) {
-                    noting::with_distance(above, usize::from(last))
-                } else if last >= u16::from(WIDTH) {
-                    *above
-                } else {
-                    noting::narrowed::<S::Kind>(start, above, line as u8, last as u8)
+                    return above.with_distance(last);
+                }
+                match Line::try_from(last) {
+                    Err(_) => *above,
+                    Ok(x) => above.narrowed::<S::Kind>(start, line as u8, &x),
                 }
             }
         }

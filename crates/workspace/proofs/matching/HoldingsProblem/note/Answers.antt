@@ -31,37 +31,37 @@ returns-then-line-from g c sound prefix v is started above six o b =
     let key = keyed c.args.key.now in
     let i = c.in-Some-checked_sub.behind - 1 in
     let lines = lines_same k held sound.sound key prefix v is o b (template_of c.in-Some.template.now) (omega arith) c.in-Some.ensures.1 in
-    let last = last_read k held sound.sound key prefix v is o b i c.at-last.result (omega arith) c.at-last.ensures in
+    let last = last_read k held sound.sound key prefix v is o b i c.from-last.result (omega arith) (c.from-last.ensures ∙ c.at-in-Some-checked_sub.ensures) in
     let note = c.with_distance.result in
     let old = c.args.above.now in
     place_fits k held sound.sound key prefix v is o b g.met.S.Kind.GateKind.lawful old note (above (omega (arith, one_more k held sound.sound key prefix v is o b)) o (begun_before k held sound.sound key prefix v is o b))
     (omega (arith, lines)) c.with_distance.ensures.keeps
-    (subst (λ (x : ℕ). IsSet note.chosen (λ d. eqb d x || bit old.chosen d)) (c.from-then-line-from.ensures ∙ last) c.with_distance.ensures.chooses)
+    (subst (λ (x : ℕ). IsSet note.chosen (λ d. eqb d x || bit old.chosen d)) last c.with_distance.ensures.chooses)
 
-pub returns-then-last-from : goal.returns-then-last-from
-returns-then-last-from g c sound prefix v is started above six o b =
+pub returns-in-Err : goal.returns-in-Err
+returns-in-Err g c sound prefix v is started above six o b =
     let k = g.S.Kind.GateKind.means in
     let held = condition_of g.S.Store.means c.args.self.now in
     let key = keyed c.args.key.now in
     let i = c.in-Some-checked_sub.behind - 1 in
     let lines = lines_same k held sound.sound key prefix v is o b (template_of c.in-Some.template.now) (omega arith) c.in-Some.ensures.1 in
-    let last = last_read k held sound.sound key prefix v is o b i c.at-last.result (omega arith) c.at-last.ensures in
+    let last = last_read k held sound.sound key prefix v is o b i c.from-last.result (omega arith) (c.from-last.ensures ∙ c.at-in-Some-checked_sub.ensures) in
     let small = line_small k held sound.sound key prefix v is o b i (omega arith) (omega (arith, lines)) in
-    absurd (let z : ⊥ = omega (arith, small, last, (g.S.Store.bounded c.args.self.now.store).few_lines) in z)
+    absurd (let z : ⊥ = omega (arith, small, last, c.in-Err.ensures, (g.S.Store.bounded c.args.self.now.store).few_lines) in z)
 
-pub returns-else-last-from : goal.returns-else-last-from
-returns-else-last-from g c sound prefix v is started above six o b =
+pub returns-in-Ok : goal.returns-in-Ok
+returns-in-Ok g c sound prefix v is started above six o b =
     let k = g.S.Kind.GateKind.means in
     let held = condition_of g.S.Store.means c.args.self.now in
     let gates = held.store.gates in
     let key = keyed c.args.key.now in
     let i = c.in-Some-checked_sub.behind - 1 in
     let lines = lines_same k held sound.sound key prefix v is o b (template_of c.in-Some.template.now) (omega arith) c.in-Some.ensures.1 in
-    let last = last_read k held sound.sound key prefix v is o b i c.at-last.result (omega arith) c.at-last.ensures in
+    let last = last_read k held sound.sound key prefix v is o b i c.from-last.result (omega arith) (c.from-last.ensures ∙ c.at-in-Some-checked_sub.ensures) in
     let frame : contents c.args.start.now.frame ≡ frame_at gates o.first = started.frame ∙ ap (frame_at gates) (number_at k held key o b 0 (omega arith)) in
     let note = c.narrowed.result in
     let old = c.args.above.now in
     narrowed_fits k held sound.sound key prefix v is o b g.met.S.Kind.GateKind.lawful old note (above (omega (arith, one_more k held sound.sound key prefix v is o b)) o (begun_before k held sound.sound key prefix v is o b))
     i (omega arith) (omega (arith, lines)) c.narrowed.ensures.poses c.narrowed.ensures.chooses
     (let N : ℕ → List Gate → Type 0 = λ x gs. AllZip (Narrows k gs i x) (contents old.images) (contents note.images) in
-    subst (N v) frame (subst (λ (x : ℕ). N x (contents c.args.start.now.frame)) last (c.narrowed.ensures.reaches (omega arith))))
+    subst (N v) frame (subst (λ (x : ℕ). N x (contents c.args.start.now.frame)) (c.in-Ok.ensures ∙ last) c.narrowed.ensures.reaches))
