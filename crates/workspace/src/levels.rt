@@ -1,4 +1,4 @@
-// The numbers that can come next in a key, one function for each part of a key.
+// The numbers that can come next in a key: where its template is not posed yet, in its map of lines, and behind that map.
 ghost use Rattle.std.specs.Prelude.{◌≡◌, ℕ, ◌-◌, ◌*◌, ◌^◌, ◌≤◌, not, ◌&&◌, ltb, List, length, drop, nat_le, nat_lt};
 ghost use Rattle.fixed_list.specs.Lists.{contents};
 ghost use Rattle.gates.specs.Lines.{bit};
@@ -19,7 +19,7 @@ use gates::{GateKind, WIDTH};
 use search::{Key, candidates};
 
 // The numbers 8 - k of those k that are more than half of the size and no more than the size.
-pub(crate) fn next_shares(size: usize) -> u64
+fn next_shares(size: usize) -> u64
     ensures { IsSet result (λ v. nat_lt v MOST_GATES && (nat_lt size (2 * (MOST_GATES - v)) && nat_le (MOST_GATES - v) size)) }
 {
     numbers_where(MOST_GATES, |share| {
@@ -39,6 +39,7 @@ fn next_flips(lines: u8) -> u64
 }
 
 // The numbers that can come next before the template is posed, by how many there are already.
+// A number of a key is known by its place, so the count says which comes next.
 pub(crate) fn next_pose(template: &Template, level: usize) -> u64
     ensures shares { level ≡ 2
         → IsSet result (λ v. nat_lt v MOST_GATES && (nat_lt (length (template_of template.now).gates) (2 * (MOST_GATES - v)) && nat_le (MOST_GATES - v) (length (template_of template.now).gates))) }

@@ -1,4 +1,4 @@
-use Rattle.std.proofs.Common.{rules, ℕ, Bool, ◌<◌, not, ◌&&◌, ltb, drop, ap, ◌∙◌, arith}
+use Rattle.std.proofs.Common.{rules, ℕ, Bool, not, ◌&&◌, ltb, drop, ap, ◌∙◌}
 use Rattle.fixed_list.specs.Lists.{contents}
 use Rattle.search.specs.Keys.{keyed}
 use Rattle.workspace.specs.Notes.{possible}
