@@ -39,7 +39,7 @@ returns-in-Some-checked_sub g c fits v rest e =
     let k = g.S.Kind.GateKind.means in
     let held = condition_of g.S.Store.means c.args.self.now in
     let key = keyed c.args.key.now in
-    line_in_set k held g.met.S.Kind.GateKind.lawful fits.sound.sound key (omega arith) c.args.note.now (fits.whole) (template_of c.in-Some.template.now) c.in-Some.ensures.1
+    line_in_set k held g.met.S.Kind.GateKind.lawful fits.sound.sound key (omega arith) c.args.note.now fits.whole (template_of c.in-Some.template.now) c.in-Some.ensures.1
     (contents c.args.start.now.frame) fits.first.frame v (next_of k held key v rest e) c.next_lines.result
     c.in-Some-checked_sub.line c.named_places.result c.lines-in-Some-checked_sub.result (omega arith) (omega arith) c.named_places.ensures c.lines-in-Some-checked_sub.ensures
     (omega (arith, c.lines-in-Some-checked_sub.ensures, (g.S.Store.bounded c.args.self.now.store).few_lines))
@@ -51,6 +51,6 @@ returns-in-Some-2 g c fits v rest e =
     let held = condition_of g.S.Store.means c.args.self.now in
     let key = keyed c.args.key.now in
     let l = c.from-lines.result in
-    distance_in_set k held g.met.S.Kind.GateKind.lawful fits.sound.sound key (omega arith) c.args.note.now (fits.whole) (template_of c.in-Some.template.now) c.in-Some.ensures.1
+    distance_in_set k held g.met.S.Kind.GateKind.lawful fits.sound.sound key (omega arith) c.args.note.now fits.whole (template_of c.in-Some.template.now) c.in-Some.ensures.1
     (contents c.args.start.now.frame) fits.first.frame v (next_of k held key v rest e) c.next_places.result
     l (length key - (6 + l)) c.last_distance-last.result (c.in-Some-checked_sub.line - l + 1) (c.from-lines.ensures ∙ c.lines.ensures) (omega arith) c.last_distance-last.ensures (omega arith) c.next_places.ensures
