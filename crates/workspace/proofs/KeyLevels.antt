@@ -1,6 +1,6 @@
 -- What the numbers of a key say of the occurrences whose keys begin with them.
 use Rattle.std.proofs.Common.{◌≡◌, ℕ, suc, ◌+◌, ◌-◌, ◌<◌, ◌≤◌, true, cond, List, [], ◌∷◌, ◌++◌, map, length, get_or, sym, refl, ap, ◌∙◌, arith}
-use Rattle.std.proofs.lemmas.List.{append_assoc, append-nil, length-append, get_or_append_left, get_or-append-add, get_or_at, get_or-map}
+use Rattle.std.proofs.lemmas.List.{append-nil, length-append, get_or_append_left, get_or-append-add, get_or_at, get_or-map}
 use Rattle.gates.specs.Kinds.{KindMeaning}
 use Rattle.workspace.specs.Conditions.{Condition}
 use Rattle.workspace.specs.Occurrences.{Occurrence, places, key_of, template_on}
@@ -13,7 +13,6 @@ module _ (k : KindMeaning) (c : Condition) where
   pub record Next (prefix : List ℕ) (v : ℕ) : Type 0 where
     pub o : Occurrence
     pub begun : Begun k c prefix o
-    pub longer : Begun k c (prefix ++ v ∷ []) o
     pub is : get_or (key_of o) (length prefix) 0 ≡ v
     pub more : length prefix < length (key_of o)
 
@@ -25,7 +24,6 @@ module _ (k : KindMeaning) (c : Condition) where
       record {
         o = s.occurrence;
         begun = record { rules = s.rules; rest = v ∷ rest; begins = named };
-        longer = record { rules = s.rules; rest = rest; begins = named ∙ sym (append_assoc prefix (v ∷ []) rest) };
         is = ap (λ (key : List ℕ). get_or key (length prefix) 0) named ∙ get_or_at prefix v rest 0 (length prefix) refl;
         more = omega (arith, ap length named, length-append prefix (v ∷ rest));
       }

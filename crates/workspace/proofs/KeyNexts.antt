@@ -1,10 +1,12 @@
 -- What comes next in the keys of occurrences, number by number.
-use Rattle.std.proofs.Common.{◌≡◌, ℕ, suc, ◌+◌, ◌-◌, ◌*◌, ◌^◌, ◌<◌, ◌≤◌, Bool, true, false, cond, ◌&&◌, ltb, leb, ◌⊎◌, List, ◌∷◌, ◌++◌, length, get_or, drop, sym, refl, ap, ◌∙◌, subst, inl, inr, arith}
+use Rattle.std.proofs.Common.{◌≡◌, ℕ, suc, ◌+◌, ◌-◌, ◌*◌, ◌^◌, ◌<◌, ◌≤◌, Bool, true, false, cond, ◌&&◌, ltb, leb, ◌⊎◌, List, ◌∷◌, ◌++◌, length, get_or, drop, Some, None, Option, Bor, sym, refl, ap, ◌∙◌, subst, inl, inr, arith}
 use Rattle.std.proofs.ByRecursion.{All-get_or}
 use Rattle.std.proofs.lemmas.List.{length-drop, get_or-drop}
 use Rattle.std.proofs.lemmas.Nat.{pow_below}
 use Rattle.std.proofs.lemmas.Bool.{cases_eq, lt-ltb, le-leb, and_from}
 use Rattle.std.proofs.lemmas.Bool.Decides.{leb_tells}
+use Rattle.std.specs.Option.{MatchOption}
+use Rattle.std.specs.Bool.{IsTrue}
 use Rattle.gates.specs.Lines.{bit}
 use Rattle.gates.specs.Kinds.{KindMeaning}
 use Rattle.search.specs.Listing.{Whole}
@@ -14,7 +16,10 @@ use Rattle.workspace.specs.Conditions.{Condition, no_entry, Sound}
 use Rattle.workspace.specs.Occurrences.{Occurrence, places, key_of, template_on}
 use Rattle.workspace.specs.Matching.{occurs_in_test}
 use Rattle.workspace.specs.Prefixes.{Begun}
+use Rattle.workspace.specs.Proposals.{template_of}
+use Rattle.workspace.specs.Shelves.{IsNumbered}
 use Rattle.workspace.specs.Starts.{IsSet}
+use Rattle.workspace.specs.declared.template.Template.{Template}
 use Rattle.workspace.proofs.DecidingTurns.{decides_has}
 use Rattle.workspace.proofs.Keying.{template_meets, key_long}
 use Rattle.workspace.proofs.KeyLevels.{Next, next_of, begun_of, number_at, line_at, distance_at}
@@ -79,6 +84,12 @@ module _ (k : KindMeaning) (c : Condition) (sound : Sound k c) (prefix : List �
       by : ((leb least long ≡ true) × (least ≤ long)) ⊎ ((leb least long ≡ false) × (long < least)) → Whole (occurs_in_test k c) prefix (leb least long)
       by (inl h) = subst (Whole (occurs_in_test k c) prefix) (sym h.0) (no_longer l t is (omega (arith, h.1)))
       by (inr h) = subst (Whole (occurs_in_test k c) prefix) (sym h.0) (too_short l t is (omega (arith, h.1)))
+
+  -- a key whose number of a template has none is whole, another by its length
+  pub whole_found : 3 ≤ length prefix → (found : Option (Bor Template)) → IsNumbered c.shelf (get_or prefix 1 0) found → (r : Bool) (Q : Bor Template → Type 0)
+      → ((t : Bor Template) → Q t → r ≡ leb (13 + (template_of t.now).lines) (length prefix + get_or prefix 2 0)) → MatchOption found (IsTrue r) Q → Whole (occurs_in_test k c) prefix r
+  whole_found l None past r Q _ e = subst (Whole (occurs_in_test k c) prefix) (sym e) (unlisted (omega (arith, l)) past)
+  whole_found l (Some t) is r Q says q = subst (Whole (occurs_in_test k c) prefix) (sym (says t q)) (whole_is l (template_of t.now) is.1 (13 + (template_of t.now).lines) (length prefix + get_or prefix 2 0) refl refl)
 
 module _ (k : KindMeaning) (c : Condition) (sound : Sound k c) (prefix : List ℕ) (v : ℕ) (n : Next k c prefix v) where
   abbrev o : Occurrence

@@ -2,6 +2,7 @@
 use Rattle.std.proofs.Common.{◌≡◌, ℕ, zero, suc, ◌+◌, ◌-◌, ◌<◌, ◌≤◌, Bool, true, false, cond, not, ◌&&◌, ◌||◌, eqb, ltb, ◌⊎◌, List, [], ◌∷◌, ◌++◌, map, length, get_or, take, drop, sym, refl, ap, ◌∙◌, subst, inl, inr, arith}
 use Rattle.std.specs.List.{AllZip}
 use Rattle.std.proofs.ByRecursion.{All-get_or}
+use Rattle.std.proofs.Math.Bool.{or-false}
 use Rattle.std.proofs.lemmas.List.Elements.{AllZip-get_or}
 use Rattle.std.proofs.lemmas.List.{append_assoc, get_or_push, length_push, length-drop, length-map, get_or_at, get_or-drop, get_or-map, get_or-take, get_or-replicate, drop_all, drop-append-le}
 use Rattle.std.proofs.lemmas.Bool.{cases_eq, eq-eqb, ne_eqb, and_from, or_right}
@@ -19,7 +20,7 @@ use Rattle.workspace.specs.TurnTests.{has_number_lem}
 use Rattle.workspace.specs.Conditions.{Condition, Sound, no_entry}
 use Rattle.workspace.specs.Occurrences.{Occurrence, places, key_of, template_on}
 use Rattle.workspace.specs.Matching.{frame_at, posed}
-use Rattle.workspace.specs.Notes.{NoteFits, Narrows, can_stand, blank_image, gate_of_lem, image_at, members_in, possible, open_reach}
+use Rattle.workspace.specs.Notes.{NoteFits, Narrows, can_stand, Noted, blank_image, gate_of_lem, image_at, members_in, possible, open_reach}
 use Rattle.workspace.specs.Prefixes.{Begun}
 use Rattle.workspace.specs.Starts.{IsSet, movable}
 use Rattle.workspace.proofs.Blocking.{next_eligible}
@@ -76,28 +77,28 @@ module _ (k : KindMeaning) (c : Condition) (sound : Sound k c) (key prefix : Lis
   abbrev e : TemplateMeaning
   e = template_on c.shelf o
 
-  pub begun_before : Begun k c prefix o
+  begun_before : Begun k c prefix o
   begun_before = record { rules = b.rules; rest = v ∷ b.rest; begins = b.begins ∙ ap (λ (x : List ℕ). x ++ b.rest) is ∙ append_assoc prefix (v ∷ []) b.rest }
 
-  pub one_more : length key ≡ length prefix + 1
+  one_more : length key ≡ length prefix + 1
   one_more = ap length is ∙ length_push prefix v
 
-  pub last_in_key : v ≡ get_or (key_of o) (length prefix) 0
+  last_in_key : v ≡ get_or (key_of o) (length prefix) 0
   last_in_key = sym (sym (number_at k c key o b (length prefix) (omega (arith, one_more))) ∙ ap (λ (x : List ℕ). get_or x (length prefix) 0) is ∙ get_or_at prefix v [] 0 (length prefix) refl)
 
   -- what stands last in the key is the number that came last
-  pub last_read : (i last : ℕ) → length key ≡ 7 + i → last ≡ get_or key (6 + i) 0 → last ≡ v
+  last_read : (i last : ℕ) → length key ≡ 7 + i → last ≡ get_or key (6 + i) 0 → last ≡ v
   last_read i last long at = at ∙ ap (λ (x : List ℕ). get_or x (6 + i) 0) is ∙ get_or_push prefix v 0 (6 + i) (omega (arith, one_more))
 
   -- the template that the key numbers has the lines of the occurrence's
-  pub lines_same : (t : TemplateMeaning) → 2 ≤ length key → t ≡ (get_or c.shelf (get_or key 1 0) no_entry).template → t.lines ≡ e.lines
+  lines_same : (t : TemplateMeaning) → 2 ≤ length key → t ≡ (get_or c.shelf (get_or key 1 0) no_entry).template → t.lines ≡ e.lines
   lines_same t two read = ap (λ (x : TemplateMeaning). x.lines) (template_is k c key o b two t read)
 
   -- the line that was mapped last
-  pub line_last : (i : ℕ) → length key ≡ 7 + i → i < e.lines → v ≡ get_or o.turn.table i 0
+  line_last : (i : ℕ) → length key ≡ 7 + i → i < e.lines → v ≡ get_or o.turn.table i 0
   line_last i long il = last_in_key ∙ ap (λ (x : ℕ). get_or (key_of o) x 0) (let z : length prefix ≡ 6 + i = omega (arith, one_more) in z) ∙ line_at k c key o b i il
 
-  pub line_small : (i : ℕ) → length key ≡ 7 + i → i < e.lines → v < c.store.lines
+  line_small : (i : ℕ) → length key ≡ 7 + i → i < e.lines → v < c.store.lines
   line_small i long il =
       let maps = b.rules.turn.maps in
       subst (λ (x : ℕ). x < c.store.lines) (sym (line_last i long il)) (All-get_or (λ x. x < c.store.lines) o.turn.table i 0 (omega (arith, maps.long)) maps.below)
@@ -121,17 +122,13 @@ module _ (k : KindMeaning) (c : Condition) (sound : Sound k c) (key prefix : Lis
             ap (λ (x : ℕ). bit x (distance o j)) (sym (get_or-map (λ (m : Image). m.reached) images j blank_image 0 inside) ∙ ap (λ (xs : List ℕ). get_or xs j 0) reaches ∙ get_or-take (length images) open_reach j 0 inside)
             ∙ open_at j l;
         chosen_so = λ d l.
-            ap (λ (x : ℕ). bit x d) chooses ∙ bit_power 0 d ∙ same_test d 0 ∙ or_none (eqb 0 d)
+            ap (λ (x : ℕ). bit x d) chooses ∙ bit_power 0 d ∙ same_test d 0 ∙ sym (or-false (eqb 0 d))
             ∙ ap (λ (xs : List ℕ). has_number_lem (0 ∷ xs) d) (sym (drop_all (6 + e.lines) key (omega arith)));
       }
     where
       direction : (d : Bool) → eqb (cond d 1 0) 1 ≡ d
       direction true = refl
       direction false = refl
-
-      or_none : (x : Bool) → x ≡ (x || false)
-      or_none true = refl
-      or_none false = refl
 
       later : (j : ℕ) → suc j < length (places o) → bit 18446744073709551614 (distance o (suc j)) ≡ true
       later j l =
@@ -146,7 +143,7 @@ module _ (k : KindMeaning) (c : Condition) (sound : Sound k c) (key prefix : Lis
 
   module _ (laws : KindLaws k) (above note : Note) (fits : NoteFits k e prefix above o) where
     -- one more line is mapped
-    pub narrowed_fits : (i : ℕ) → length key ≡ 7 + i → i < e.lines → members_in note.images ≡ members_in above.images → note.chosen ≡ above.chosen
+    narrowed_fits : (i : ℕ) → length key ≡ 7 + i → i < e.lines → members_in note.images ≡ members_in above.images → note.chosen ≡ above.chosen
         → AllZip (Narrows k (frame_at c.store.gates o.first) i v) (contents above.images) (contents note.images) → NoteFits k e key note o
     narrowed_fits i long il poses chooses reaches =
         record {
@@ -164,7 +161,7 @@ module _ (k : KindMeaning) (c : Condition) (sound : Sound k c) (key prefix : Lis
         }
 
     -- one more distance is chosen
-    pub place_fits : 7 + e.lines ≤ length key → note.images ≡ above.images → IsSet note.chosen (λ d. eqb d v || bit above.chosen d) → NoteFits k e key note o
+    place_fits : 7 + e.lines ≤ length key → note.images ≡ above.images → IsSet note.chosen (λ d. eqb d v || bit above.chosen d) → NoteFits k e key note o
     place_fits long keeps chooses = record {
       posed_so = ap members_in keeps ∙ fits.posed_so;
       reached_so = λ j l. ap (λ (xs : FixedList Image 8). bit (get_or (contents xs) j blank_image).reached (distance o j)) keeps ∙ fits.reached_so j l;
@@ -173,6 +170,35 @@ module _ (k : KindMeaning) (c : Condition) (sound : Sound k c) (key prefix : Lis
           ∙ sym (has_push (0 ∷ drop (6 + e.lines) prefix) v d)
           ∙ ap (λ (xs : List ℕ). has_number_lem (0 ∷ xs) d) (sym (ap (drop (6 + e.lines)) is ∙ drop-append-le (6 + e.lines) prefix (v ∷ []) (omega (arith, one_more))));
     }
+
+  -- what was read of the key: the lines of the template, and the number that came last
+  module _ (t : TemplateMeaning) (read : t ≡ (get_or c.shelf (get_or key 1 0) no_entry).template) (i last : ℕ) (long : length key ≡ 7 + i) (at : last ≡ get_or key (6 + i) 0) where
+    lines : t.lines ≡ e.lines
+    lines = lines_same t (omega (arith, long)) read
+
+    is_last : last ≡ v
+    is_last = last_read i last long at
+
+    -- where it is a line, it is one of the store's
+    pub line_read : i < t.lines → last < c.store.lines
+    line_read il = omega (arith, is_last, line_small i long (omega (arith, il, lines)))
+
+    module _ (laws : KindLaws k) (above note : Note) (before : Noted k c prefix above) where
+      fits : NoteFits k e prefix above o
+      fits = before (omega (arith, one_more, long)) o begun_before
+
+      -- the note of one more line fits
+      pub line_noted : i < t.lines → (x : ℕ) → x ≡ last → (frame : List Gate) → frame ≡ frame_at c.store.gates (get_or key 0 0) → members_in note.images ≡ members_in above.images → note.chosen ≡ above.chosen
+          → AllZip (Narrows k frame i x) (contents above.images) (contents note.images) → NoteFits k e key note o
+      line_noted il x x-is frame f-is poses chooses reaches =
+          narrowed_fits laws above note fits i long (omega (arith, il, lines)) poses chooses
+          (subst (λ (gs : List Gate). AllZip (Narrows k gs i v) (contents above.images) (contents note.images)) (f-is ∙ ap (frame_at c.store.gates) (number_at k c key o b 0 (omega (arith, long))))
+          (subst (λ (y : ℕ). AllZip (Narrows k frame i y) (contents above.images) (contents note.images)) (x-is ∙ is_last) reaches))
+
+      -- the note of one more distance fits
+      pub place_noted : t.lines ≤ i → note.images ≡ above.images → IsSet note.chosen (λ d. eqb d last || bit above.chosen d) → NoteFits k e key note o
+      place_noted many keeps chooses =
+          place_fits laws above note fits (omega (arith, many, lines, long)) keeps (subst (λ (x : ℕ). IsSet note.chosen (λ d. eqb d x || bit above.chosen d)) is_last chooses)
 
 module _ (k : KindMeaning) (c : Condition) (prefix : List ℕ) (o : Occurrence) (b : Begun k c prefix o) where
   -- the distance that was chosen last: that of the first place, or the last number

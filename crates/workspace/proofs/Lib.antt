@@ -34,6 +34,7 @@ pub mod Spelling
 pub mod PlannedKeys
 pub mod KeyNexts
 pub mod KeyNotes
+pub mod KeyCandidates
 pub mod Passing
 pub mod Choosing
 pub mod Tables

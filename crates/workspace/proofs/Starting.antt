@@ -1,5 +1,6 @@
 -- What is known of a frame, from what its sets say.
 use Rattle.std.proofs.Common.{◌≡◌, ℕ, ◌<◌, ◌≤◌, Bool, true, false, not, ◌&&◌, ◌||◌, ltb, ◌⊎◌, List, length, get_or, take, sym, refl, ap, ◌∙◌, ap₂, inl, inr, arith}
+use Rattle.std.proofs.Math.Bool.{not-not}
 use mathlib.Core.Bool.{beq}
 use lib.Bits.{bit_and}
 use Rattle.std.proofs.lemmas.List.{get_or-take, length-take}
@@ -41,12 +42,8 @@ module _ (k : KindMeaning) (frame : List Gate) (count : ℕ) (few : count ≤ 32
       is_free : ℕ → Bool
       is_free e = k.free (at_distance frame e) (at_distance frame d)
 
-      twice : (b : Bool) → not (not b) ≡ b
-      twice true = refl
-      twice false = refl
-
       before : (e : ℕ) → e < d → not (bit (get_or sets d 0) e) ≡ is_free e
-      before e l = ap not (known.blockers d dl e (below e l) ∙ ap (λ (b : Bool). b && not (is_free e)) (lt-ltb e d l)) ∙ twice (is_free e)
+      before e l = ap not (known.blockers d dl e (below e l) ∙ ap (λ (b : Bool). b && not (is_free e)) (lt-ltb e d l)) ∙ not-not (is_free e)
 
       free : (e : ℕ) → e < d → (bit chosen e || not (bit (get_or sets d 0) e)) ≡ true → (bit chosen e || k.free (at_distance frame e) (at_distance frame d)) ≡ true
       free e l h = ap (λ (b : Bool). bit chosen e || b) (sym (before e l)) ∙ h

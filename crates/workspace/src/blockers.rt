@@ -11,17 +11,15 @@ use std::array;
 fn blockers_of<K: GateKind>(gates: &[Gate], distance: usize) -> u64
     ensures { distance < length gates.now → IsSet result (blocks K.means gates.now distance) }
 {
-    match gates.get(distance) {
-        None => 0,
-        Some(gate) => {
-            distances_where(&gates[..distance], |before| !K::interchange(before, *gate))
-        }
-    }
+    let Some(gate) = gates.get(distance) else {
+        return 0;
+    };
+    distances_where(&gates[..distance], |before| !K::interchange(before, *gate))
 }
 
 // For each gate the distances of those that block it.
 pub(crate) fn all_blockers<K: GateKind>(gates: &[Gate]) -> [u64; REACH]
-    ensures { (d : ℕ) → d < 32 → d < length gates.now → IsSet (slice_index result d) (blocks K.means gates.now d) }
+    ensures { (d : ℕ) → d < REACH → d < length gates.now → IsSet (slice_index result d) (blocks K.means gates.now d) }
 {
     array::from_fn(|distance| blockers_of::<K>(gates, distance))
 }

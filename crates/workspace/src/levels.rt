@@ -1,5 +1,5 @@
-// The numbers that can come next in a key, one function for each part of a key.
-ghost use Rattle.std.specs.Prelude.{◌≡◌, ℕ, ◌-◌, ◌*◌, ◌^◌, ◌<◌, ◌≤◌, not, ◌&&◌, ltb, List, length, drop, nat_le, nat_lt};
+// The numbers that can come next in a key: where its template is not posed yet, in its map of lines, and behind that map.
+ghost use Rattle.std.specs.Prelude.{◌≡◌, ℕ, ◌-◌, ◌*◌, ◌^◌, ◌≤◌, not, ◌&&◌, ltb, List, length, drop, nat_le, nat_lt};
 ghost use Rattle.fixed_list.specs.Lists.{contents};
 ghost use Rattle.gates.specs.Lines.{bit};
 ghost use Rattle.search.specs.Keys.{keyed};
@@ -9,17 +9,18 @@ ghost use Rattle.workspace.specs.Starts.{IsSet, movable};
 ghost use Rattle.workspace.specs.TurnTests.{has_number_lem};
 
 use super::Template;
+use super::line::Line;
 use super::named::BEFORE_MAP;
 use super::notes::{Image, Note};
 use super::numbers::numbers_where;
-use super::start::{Start, eligible};
+use super::start::Start;
 use super::template::{MOST_GATES, MOST_LINES};
-use gates::GateKind;
+use gates::{GateKind, WIDTH};
 use search::{Key, candidates};
 
 // The numbers 8 - k of those k that are more than half of the size and no more than the size.
-pub(crate) fn next_shares(size: usize) -> u64
-    ensures { IsSet result (λ v. nat_lt v 8 && (nat_lt size (2 * (8 - v)) && nat_le (8 - v) size)) }
+fn next_shares(size: usize) -> u64
+    ensures { IsSet result (λ v. nat_lt v MOST_GATES && (nat_lt size (2 * (MOST_GATES - v)) && nat_le (MOST_GATES - v) size)) }
 {
     numbers_where(MOST_GATES, |share| {
         size < 2 * (MOST_GATES - share) && MOST_GATES - share <= size
@@ -28,7 +29,7 @@ pub(crate) fn next_shares(size: usize) -> u64
 
 // The sets of lines, as numbers, that can be flipped of so many lines.
 fn next_flips(lines: u8) -> u64
-    ensures { lines ≤ 4 → IsSet result (λ v. ltb v (2 ^ lines)) }
+    ensures { lines ≤ MOST_LINES → IsSet result (λ v. ltb v (2 ^ lines)) }
 {
     if lines <= MOST_LINES {
         candidates::numbers_below(1_usize << lines)
@@ -38,12 +39,13 @@ fn next_flips(lines: u8) -> u64
 }
 
 // The numbers that can come next before the template is posed, by how many there are already.
+// A number of a key is known by its place, so the count says which comes next.
 pub(crate) fn next_pose(template: &Template, level: usize) -> u64
     ensures shares { level ≡ 2
-        → IsSet result (λ v. nat_lt v 8 && (nat_lt (length (template_of template.now).gates) (2 * (8 - v)) && nat_le (8 - v) (length (template_of template.now).gates))) }
+        → IsSet result (λ v. nat_lt v MOST_GATES && (nat_lt (length (template_of template.now).gates) (2 * (MOST_GATES - v)) && nat_le (MOST_GATES - v) (length (template_of template.now).gates))) }
     ensures directions { level ≡ 3 → IsSet result (λ v. ltb v 2) }
     ensures rotations { level ≡ 4 → IsSet result (λ v. ltb v (length (template_of template.now).gates)) }
-    ensures flips { level ≡ 5 → (template_of template.now).lines ≤ 4 → IsSet result (λ v. ltb v (2 ^ (template_of template.now).lines)) }
+    ensures flips { level ≡ 5 → (template_of template.now).lines ≤ MOST_LINES → IsSet result (λ v. ltb v (2 ^ (template_of template.now).lines)) }
 {
     match level {
         2 => next_shares(template.gates().len()),
@@ -55,25 +57,24 @@ pub(crate) fn next_pose(template: &Template, level: usize) -> u64
 }
 
 // Whether line x is the image of a line already.
-fn is_mapped(key: &Key, x: u8) -> bool
-    ensures { result ≡ has_number_lem (drop 6 (keyed key.now)) x }
+fn is_mapped(key: &Key, x: &Line) -> bool
+    ensures { result ≡ has_number_lem (drop BEFORE_MAP (keyed key.now)) x.now.number }
 {
-    match key.as_slice().get(BEFORE_MAP..) {
-        None => false,
-        Some(images) => images.contains(&(x as u16)),
-    }
+    key.as_slice()
+        .get(BEFORE_MAP..)
+        .is_some_and(|images| images.contains(&u16::from(x.number)))
 }
 
 // Whether the image of the gate can still stand somewhere, where line x is the image of the line.
-fn can_still_stand<K: GateKind>(start: &Start<K>, image: Image, line: u8, x: u8) -> bool
-    ensures { x < 32 → result ≡ some_of image.reached (can_stand K.means (contents start.now.frame) image.member.gate line x) }
+fn can_still_stand<K: GateKind>(start: &Start<K>, image: Image, line: u8, x: &Line) -> bool
+    ensures { result ≡ some_of image.reached (can_stand K.means (contents start.now.frame) image.member.gate line x.now.number) }
 {
     image.narrowed::<K>(start, line, x).reached != 0
 }
 
 // Whether each of the first few gates can still stand somewhere, where line x is the image of the line.
-fn is_possible<K: GateKind>(start: &Start<K>, note: &Note, few: usize, line: u8, x: u8) -> bool
-    ensures { x < 32 → result ≡ possible K.means (contents start.now.frame) note.now few line x }
+fn is_possible<K: GateKind>(start: &Start<K>, note: &Note, few: usize, line: u8, x: &Line) -> bool
+    ensures { result ≡ possible K.means (contents start.now.frame) note.now few line x.now.number }
 {
     note.images
         .as_slice()
@@ -91,12 +92,13 @@ pub(crate) fn next_lines<K: GateKind>(
     line: u8,
     lines: u8,
 ) -> u64
-    ensures { lines ≤ 32
-        → IsSet result (λ x. nat_lt x lines && (not (has_number_lem (drop 6 (keyed key.now)) x) && possible K.means (contents start.now.frame) note.now few line x)) }
+    ensures { lines ≤ WIDTH
+        → IsSet result (λ x. nat_lt x lines && (not (has_number_lem (drop BEFORE_MAP (keyed key.now)) x) && possible K.means (contents start.now.frame) note.now few line x)) }
 {
-    numbers_where(lines as usize, |x| {
-        let x = x as u8;
-        !is_mapped(key, x) && is_possible::<K>(start, note, few, line, x)
+    numbers_where(usize::from(lines), |x| {
+        Line::try_from(x).is_ok_and(|x| {
+            !is_mapped(key, &x) && is_possible::<K>(start, note, few, line, &x)
+        })
     })
 }
 
@@ -109,8 +111,8 @@ pub(crate) fn next_places<K: GateKind>(
 ) -> u64
     ensures { IsSet result (λ d. bit (image_at note.now place).reached d && (nat_lt d (length (contents start.now.frame)) && (nat_lt last d && movable K.means (contents start.now.frame) note.now.chosen d))) }
 {
-    match note.images.as_slice().get(place) {
-        None => 0,
-        Some(image) => image.reached & eligible(start, note.chosen, last),
-    }
+    let Some(image) = note.images.as_slice().get(place) else {
+        return 0;
+    };
+    image.reached & start.eligible(note.chosen, last)
 }

@@ -14,6 +14,7 @@ mod frame;
 mod framing;
 mod holdings;
 mod levels;
+mod line;
 mod matching;
 mod moving;
 mod named;

@@ -7,14 +7,15 @@ ghost use Rattle.workspace.specs.Notes.{Noted};
 ghost use Rattle.workspace.specs.Firsts.{Started};
 ghost use Rattle.workspace.specs.Shelves.{IsNumbered, entries_of};
 
+use super::line::Line;
 use super::named::BEFORE_MAP;
-use super::notes::{NO_IMAGE, Note};
+use super::notes::{Image, Note};
 use super::occurs::is_occurrence;
 use super::start::{Start, start_at};
 use super::template::MOST_GATES;
 use super::{Holdings, Template, levels, noting};
 use fixed_list::FixedList;
-use gates::{LineSet, WIDTH};
+use gates::LineSet;
 use search::{Key, Problem, Shown, candidates};
 use stores::Store;
 
@@ -23,9 +24,9 @@ const WHOLE: usize = BEFORE_MAP + MOST_GATES - 1;
 
 // How many places the key says that its occurrence has.
 fn named_places(key: &Key) -> usize
-    ensures { result ≡ 8 - slice_index (keyed key.now) 2 }
+    ensures { result ≡ MOST_GATES - slice_index (keyed key.now) 2 }
 {
-    MOST_GATES.saturating_sub(key.at(2) as usize)
+    MOST_GATES.saturating_sub(usize::from(key.at(2)))
 }
 
 // The distance that the key names last, of those behind so many numbers; 0, that of the first place, where it names none.
@@ -33,7 +34,7 @@ fn last_distance(key: &Key, before: usize) -> usize
     requires { before ≤ length (keyed key.now) }
     ensures { result ≡ slice_index (0 ∷ drop before (keyed key.now)) (length (keyed key.now) - before) }
 {
-    key.as_slice()[before..].last().copied().unwrap_or(0) as usize
+    usize::from(key.as_slice()[before..].last().copied().unwrap_or(0))
 }
 
 impl<S> Holdings<S> {
@@ -41,7 +42,7 @@ impl<S> Holdings<S> {
     fn template_of_key(&self, key: &Key) -> Option<&Template>
         ensures { IsNumbered (entries_of self.now.shelf) (slice_index (keyed key.now) 1) result }
     {
-        self.shelf.template_at(key.at(1) as usize)
+        self.shelf.template_at(usize::from(key.at(1)))
     }
 }
 
@@ -71,12 +72,12 @@ impl<S: Store> Problem for Holdings<S> {
     }
 
     fn start(&self, first: u16) -> Start<S::Kind> {
-        start_at(&self.store, first as usize)
+        start_at(&self.store, usize::from(first))
     }
 
     fn blank(&self) -> Note {
         Note {
-            images: FixedList::new(NO_IMAGE),
+            images: FixedList::new(Image::BLANK),
             chosen: 0,
         }
     }
@@ -90,33 +91,28 @@ impl<S: Store> Problem for Holdings<S> {
             Some(0) => noting::posed_note::<S::Kind>(
                 template,
                 key.at(3) == 1,
-                key.at(4) as usize,
-                key.at(5) as LineSet,
+                usize::from(key.at(4)),
+                LineSet::from(key.at(5)),
             ),
             Some(behind) => {
                 let line = behind - 1;
-                let last = key.at(BEFORE_MAP + line);
-                if line >= template.lines() as usize {
-                    noting::with_distance(above, last as usize)
-                } else if last >= WIDTH as u16 {
-                    *above
-                } else {
-                    noting::narrowed::<S::Kind>(start, above, line as u8, last as u8)
+                let last = usize::from(key.at(BEFORE_MAP + line));
+                if line >= usize::from(template.lines()) {
+                    return above.with_distance(last);
+                }
+                match Line::try_from(last) {
+                    Err(_) => *above,
+                    Ok(x) => above.narrowed::<S::Kind>(start, line as u8, &x),
                 }
             }
         }
     }
 
     fn is_whole(&self, start: &Start<S::Kind>, note: &Note, key: &Key) -> bool {
-        if key.len() < BEFORE_MAP {
-            return false;
-        }
-        match self.template_of_key(key) {
-            None => true,
-            Some(template) => {
-                key.len() + key.at(2) as usize >= WHOLE + template.lines() as usize
-            }
-        }
+        key.len() >= BEFORE_MAP
+            && self.template_of_key(key).is_none_or(|template| {
+                key.len() + usize::from(key.at(2)) >= WHOLE + usize::from(template.lines())
+            })
     }
 
     fn candidates(&self, start: &Start<S::Kind>, note: &Note, key: &Key) -> u64 {
@@ -126,7 +122,7 @@ impl<S: Store> Problem for Holdings<S> {
         let Some(template) = self.template_of_key(key) else {
             return 0;
         };
-        let lines = template.lines() as usize;
+        let lines = usize::from(template.lines());
         match key.len().checked_sub(BEFORE_MAP) {
             None => levels::next_pose(template, key.len()),
             Some(line) if line < lines => levels::next_lines::<S::Kind>(
@@ -152,8 +148,8 @@ impl<S: Store> Problem for Holdings<S> {
         let size = self.template_of_key(key).map_or(0, Template::size);
         Shown {
             saved: (2 * named_places(key)).saturating_sub(size),
-            place: key.at(0) as usize,
-            template: key.at(1) as usize,
+            place: usize::from(key.at(0)),
+            template: usize::from(key.at(1)),
         }
     }
 }

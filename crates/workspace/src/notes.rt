@@ -10,11 +10,13 @@ pub(crate) struct Image {
     pub(crate) reached: u64,
 }
 
-// What stands behind the images of a note.
-pub(crate) const NO_IMAGE: Image = Image {
-    member: Member::BLANK,
-    reached: 0,
-};
+impl Image {
+    // What stands behind the images of a note.
+    pub(crate) const BLANK: Image = Image {
+        member: Member::BLANK,
+        reached: 0,
+    };
+}
 
 // The template as the key poses it, with what each of its gates can reach; and the distances chosen so far.
 #[derive(Clone, Copy)]

@@ -1,5 +1,5 @@
 // Making notes: a template is posed, its lines are mapped one by one, places are chosen one by one.
-ghost use Rattle.std.specs.Prelude.{◌≡◌, ◌<◌, ◌≤◌, ◌&&◌, ◌||◌, length, map, take, ◌==◌};
+ghost use Rattle.std.specs.Prelude.{◌≡◌, ◌≤◌, ◌&&◌, ◌||◌, length, map, take, ◌==◌};
 ghost use Rattle.std.specs.List.{AllZip};
 ghost use Rattle.fixed_list.specs.Lists.{contents};
 ghost use Rattle.gates.specs.Lines.{bit};
@@ -9,9 +9,10 @@ ghost use Rattle.workspace.specs.Proposals.{template_of};
 ghost use Rattle.workspace.specs.Starts.{IsSet};
 
 use super::Template;
-use super::notes::{Image, NO_IMAGE, Note};
+use super::line::Line;
+use super::notes::{Image, Note};
 use super::posing::pose;
-use super::start::{Start, role_set};
+use super::start::Start;
 use gates::{GateKind, LineSet};
 use search::candidates;
 
@@ -31,7 +32,7 @@ pub(crate) fn posed_note<K: GateKind>(
 {
     let posed = pose::<K>(template, back, rotation, flips);
     let mut images = posed.map(
-        NO_IMAGE,
+        Image::BLANK,
         |member| Image {
             member,
             reached: LATER,
@@ -43,36 +44,38 @@ pub(crate) fn posed_note<K: GateKind>(
 
 impl Image {
     // The image with those of its distances at which it can stand, where line x is the image of the line.
-    pub(crate) fn narrowed<K: GateKind>(self, start: &Start<K>, line: u8, x: u8) -> Image
+    pub(crate) fn narrowed<K: GateKind>(self, start: &Start<K>, line: u8, x: &Line) -> Image
         ensures keeps { result.member ≡ self.member }
-        ensures reaches { x < 32 → IsSet result.reached (λ d. bit self.reached d && can_stand K.means (contents start.now.frame) self.member.gate line x d) }
+        ensures reaches { IsSet result.reached (λ d. bit self.reached d && can_stand K.means (contents start.now.frame) self.member.gate line x.now.number d) }
     {
         Image {
-            reached: self.reached & role_set::<K>(start, self.member.gate, line, x),
+            reached: self.reached & start.role_set(self.member.gate, line, x),
             ..self
         }
     }
 }
 
-// The note after line x became the image of the line.
-pub(crate) fn narrowed<K: GateKind>(start: &Start<K>, above: &Note, line: u8, x: u8) -> Note
-    ensures poses { members_in result.images ≡ members_in above.now.images }
-    ensures reaches { x < 32 → AllZip (Narrows K.means (contents start.now.frame) line x) (contents above.now.images) (contents result.images) }
-    ensures chooses { result.chosen ≡ above.now.chosen }
-{
-    let images = above
-        .images
-        .map(NO_IMAGE, |image| image.narrowed::<K>(start, line, x));
-    Note { images, ..*above }
-}
+impl Note {
+    // The note after line x became the image of the line.
+    pub(crate) fn narrowed<K: GateKind>(&self, start: &Start<K>, line: u8, x: &Line) -> Note
+        ensures poses { members_in result.images ≡ members_in self.now.images }
+        ensures reaches { AllZip (Narrows K.means (contents start.now.frame) line x.now.number) (contents self.now.images) (contents result.images) }
+        ensures chooses { result.chosen ≡ self.now.chosen }
+    {
+        let images = self
+            .images
+            .map(Image::BLANK, |image| image.narrowed::<K>(start, line, x));
+        Note { images, ..*self }
+    }
 
-// The note after one more distance was chosen.
-pub(crate) fn with_distance(above: &Note, distance: usize) -> Note
-    ensures keeps { result.images ≡ above.now.images }
-    ensures chooses { IsSet result.chosen (λ d. (d == distance) || bit above.now.chosen d) }
-{
-    Note {
-        chosen: candidates::with_number(above.chosen, distance),
-        ..*above
+    // The note after one more distance was chosen.
+    pub(crate) fn with_distance(&self, distance: usize) -> Note
+        ensures keeps { result.images ≡ self.now.images }
+        ensures chooses { IsSet result.chosen (λ d. (d == distance) || bit self.now.chosen d) }
+    {
+        Note {
+            chosen: candidates::with_number(self.chosen, distance),
+            ..*self
+        }
     }
 }

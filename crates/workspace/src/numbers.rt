@@ -6,6 +6,7 @@ use gates::Gate;
 use search::candidates;
 
 // The numbers below `count` of which the test holds; one from 64 on is in no set.
+// A loop: of the test's answers only a relation is known, and that below `count` alone.
 pub(crate) fn numbers_where<F: Fn(usize) -> bool>(count: usize, test: F) -> u64
     requires { (i : ℕ) → i < count → F.pre test i }
     ensures { (p : ℕ → Bool) → Answering (F.post test) count p → IsSet result (λ i. nat_lt i count && p i) }

@@ -30,7 +30,7 @@ fn roles_of<K: GateKind>(gates: &[Gate], line: u8) -> RoleSets
 
 // For each line the distances at which it has each role.
 pub(crate) fn all_roles<K: GateKind>(gates: &[Gate]) -> [RoleSets; LINES]
-    ensures { (x : ℕ) → x < 32 → HasRoles K.means gates.now x (slice_index_or result x no_roles) }
+    ensures { (x : ℕ) → x < WIDTH → HasRoles K.means gates.now x (slice_index_or result x no_roles) }
 {
     array::from_fn(|line| roles_of::<K>(gates, line as u8))
 }

@@ -2,16 +2,17 @@
 ghost use Rattle.fixed_list.specs.Lists.{contents};
 ghost use Rattle.gates.specs.Lines.{bit};
 ghost use Rattle.std.specs.Bool.{beq};
-ghost use Rattle.std.specs.Prelude.{◌≡◌, ◌<◌, ◌&&◌, length, nat_lt, ⊤};
+ghost use Rattle.std.specs.Prelude.{◌≡◌, ◌&&◌, length, nat_lt, ⊤};
 ghost use Rattle.workspace.specs.Matching.{frame_at};
 ghost use Rattle.workspace.specs.Starts.{IsSet, Known, at_distance, movable, same_role, within};
 
 use super::blockers::all_blockers;
 use super::frame::{Frame, REACH};
 use super::framing::frame_from;
+use super::line::Line;
 use super::numbers::numbers_where;
 use super::role::{LINES, RoleSets, all_roles};
-use gates::{Gate, GateKind, WIDTH, sets};
+use gates::{Gate, GateKind, sets};
 use search::candidates;
 use std::alloc::AllocError;
 use std::marker::PhantomData;
@@ -29,6 +30,7 @@ pub struct Start<K: GateKind> {
 }
 
 // A copy is a clone.
+// By hand: a derive is refused beside a ghost field.
 impl<K: GateKind> Clone for Start<K> {
     ghost is_clone = { λ start copy. copy ≡ start };
 
@@ -60,20 +62,6 @@ fn agreeing(set: u64, wanted: bool) -> u64
     if wanted { set } else { !set }
 }
 
-// The distances at which line x has the roles that the other line has in the gate.
-pub(crate) fn role_set<K: GateKind>(start: &Start<K>, gate: Gate, line: u8, x: u8) -> u64
-    ensures { x < 32 → IsSet result (λ d. nat_lt d (length (contents start.now.frame)) && same_role K.means gate line (at_distance (contents start.now.frame) d) x) }
-{
-    if x >= WIDTH {
-        return 0;
-    }
-    let roles = start.roles[x as usize];
-    let positive = agreeing(roles.positive, sets::has_line(gate.positive, line));
-    let negative = agreeing(roles.negative, sets::has_line(gate.negative, line));
-    let targets = agreeing(roles.targets, sets::has_line(K::targets(gate), line));
-    candidates::numbers_below(start.frame.len()) & (positive & (negative & targets))
-}
-
 // Whether all numbers of the set are in the other.
 fn is_within(set: u64, other: u64) -> bool
     ensures { result ≡ within set other }
@@ -81,11 +69,24 @@ fn is_within(set: u64, other: u64) -> bool
     set & !other == 0
 }
 
-// The distances behind this one all of whose blockers are chosen.
-pub(crate) fn eligible<K: GateKind>(start: &Start<K>, chosen: u64, after: usize) -> u64
-    ensures { IsSet result (λ d. nat_lt d (length (contents start.now.frame)) && (nat_lt after d && movable K.means (contents start.now.frame) chosen d)) }
-{
-    numbers_where(start.frame.len(), |distance| {
-        after < distance && is_within(start.blockers[distance], chosen)
-    })
+impl<K: GateKind> Start<K> {
+    // The distances at which line x has the roles that the other line has in the gate.
+    pub(crate) fn role_set(&self, gate: Gate, line: u8, x: &Line) -> u64
+        ensures { IsSet result (λ d. nat_lt d (length (contents self.now.frame)) && same_role K.means gate line (at_distance (contents self.now.frame) d) x.now.number) }
+    {
+        let roles = self.roles[usize::from(x.number)];
+        let positive = agreeing(roles.positive, sets::has_line(gate.positive, line));
+        let negative = agreeing(roles.negative, sets::has_line(gate.negative, line));
+        let targets = agreeing(roles.targets, sets::has_line(K::targets(gate), line));
+        candidates::numbers_below(self.frame.len()) & (positive & (negative & targets))
+    }
+
+    // The distances behind this one all of whose blockers are chosen.
+    pub(crate) fn eligible(&self, chosen: u64, after: usize) -> u64
+        ensures { IsSet result (λ d. nat_lt d (length (contents self.now.frame)) && (nat_lt after d && movable K.means (contents self.now.frame) chosen d)) }
+    {
+        numbers_where(self.frame.len(), |distance| {
+            after < distance && is_within(self.blockers[distance], chosen)
+        })
+    }
 }

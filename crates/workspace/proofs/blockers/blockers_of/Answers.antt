@@ -4,8 +4,8 @@ use Rattle.workspace.specs.Starts.{at_distance}
 use Rattle.workspace.proofs.Starting.{before_blocks}
 use Rattle.workspace.proofs.blockers.blockers_of.Goals as goal
 
-pub returns-in-Some : goal.returns-in-Some
-returns-in-Some g c l =
+pub returns : goal.returns
+returns g c l =
     let k = g.K.GateKind.means in
     let before = take c.args.distance c.args.gates.now in
     before_blocks k c.args.gates.now c.args.distance c.in-Some.gate.now l (c.in-Some.ensures.lookup.3.1 (gate 0 0 0 0)) c.distances_where.result

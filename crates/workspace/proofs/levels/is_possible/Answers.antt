@@ -9,8 +9,8 @@ use Rattle.workspace.specs.Notes.{can_stand, some_of}
 use Rattle.workspace.proofs.levels.is_possible.Goals as goal
 
 pub returns : goal.returns
-returns g c below =
-    let test : Image → Bool = λ m. some_of m.reached (can_stand g.K.GateKind.means (contents c.args.start.now.frame) m.member.gate c.args.line c.args.x) in
+returns g c =
+    let test : Image → Bool = λ m. some_of m.reached (can_stand g.K.GateKind.means (contents c.args.start.now.frame) m.member.gate c.args.line c.args.x.now.number) in
     let images = YieldsList-at c.take.ensures.source (YieldsList-from_slice c.as_slice.result.now c.iter.ensures.rest) in
     let all : c.all.result ≡ list_all test (take c.args.few c.as_slice.result.now) =
     all_from_yields_List {v = λ (m : Bor Image). m.now} {s = c.take.result} test _ _ c.all.result c.all.ensures.ran (YieldsList-from_take c.args.few images c.take.ensures.count) (λ x b q called. search rules) in

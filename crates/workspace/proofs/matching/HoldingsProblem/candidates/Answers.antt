@@ -1,20 +1,12 @@
-use Rattle.std.proofs.Common.{◌≡◌, ℕ, suc, ◌+◌, ◌-◌, ◌<◌, ◌≤◌, true, not, ◌&&◌, ltb, List, ◌∷◌, length, get_or, drop, sym, ap, ◌∙◌, subst, ap₂, arith}
-use Rattle.std.proofs.lemmas.Bool.{lt-ltb, and_from, not_from_false}
+use Rattle.std.proofs.Common.{◌+◌, ◌-◌, ◌≤◌, length, ◌∙◌, arith}
+use Rattle.std.proofs.lemmas.Bool.{lt-ltb}
 use Rattle.fixed_list.specs.Lists.{contents}
-use Rattle.gates.specs.declared.gate.Gate.{Gate}
-use Rattle.gates.specs.Lines.{bit}
 use Rattle.search.specs.Keys.{keyed}
-use Rattle.workspace.specs.Templates.{TemplateMeaning}
-use Rattle.workspace.specs.TurnTests.{has_number_lem}
-use Rattle.workspace.specs.Conditions.{no_entry}
 use Rattle.workspace.specs.Holdings.{condition_of}
-use Rattle.workspace.specs.Matching.{frame_at}
-use Rattle.workspace.specs.Notes.{image_at, possible}
 use Rattle.workspace.specs.Proposals.{template_of}
-use Rattle.workspace.specs.Starts.{movable}
-use Rattle.workspace.proofs.KeyLevels.{next_of, number_at}
-use Rattle.workspace.proofs.KeyNexts.{next_number, template_is, unlisted, pose_covers, line_below, line_new}
-use Rattle.workspace.proofs.KeyNotes.{last_is, line_possible, place_next}
+use Rattle.workspace.proofs.KeyLevels.{next_of}
+use Rattle.workspace.proofs.KeyNexts.{next_number, template_is, unlisted, pose_covers}
+use Rattle.workspace.proofs.KeyCandidates.{line_in_set, distance_in_set}
 use Rattle.workspace.proofs.matching.HoldingsProblem.candidates.Goals as goal
 
 pub returns-then-len-eq1 : goal.returns-then-len-eq1
@@ -46,46 +38,19 @@ pub returns-in-Some-checked_sub : goal.returns-in-Some-checked_sub
 returns-in-Some-checked_sub g c fits v rest e =
     let k = g.S.Kind.GateKind.means in
     let held = condition_of g.S.Store.means c.args.self.now in
-    let gates = held.store.gates in
-    let sound = fits.sound.sound in
-    let bounded = g.S.Store.bounded c.args.self.now.store in
     let key = keyed c.args.key.now in
-    let note = c.args.note.now in
-    let n = next_of k held key v rest e in
-    let o = n.o in
-    let i = c.in-Some-checked_sub.line in
-    let few = c.named_places.result in
-    let lines = ap (λ (x : TemplateMeaning). x.lines) (template_is k held key o n.begun (omega arith) (template_of c.in-Some.template.now) c.in-Some.ensures.1) in
-    let long : length key ≡ 6 + i = omega arith in
-    let inside : i < (get_or held.shelf o.number no_entry).template.lines = omega (arith, lines) in
-    let frame : contents c.args.start.now.frame ≡ frame_at gates o.first = fits.first.frame ∙ ap (frame_at gates) (number_at k held key o n.begun 0 (omega arith)) in
-    let below = line_below k held sound key v n i long inside in
-    let can = line_possible k held g.met.S.Kind.GateKind.lawful sound key v n note (fits.whole (omega arith) o n.begun) few i c.named_places.ensures long inside in
-    c.next_lines.ensures (omega (arith, c.lines.ensures, bounded.few_lines)) v (omega (arith, below, bounded.few_lines))
-    ∙ and_from (ltb v c.lines.result) _ (lt-ltb v c.lines.result (omega (arith, below, c.lines.ensures)))
-    (and_from (not (has_number_lem (drop 6 key) v)) _ (not_from_false (has_number_lem (drop 6 key) v) (line_new k held sound key v n i long inside))
-    (subst (λ (gs : List Gate). possible k gs note few i v ≡ true) (sym frame) can))
+    line_in_set k held g.met.S.Kind.GateKind.lawful fits.sound.sound key (omega arith) c.args.note.now fits.whole (template_of c.in-Some.template.now) c.in-Some.ensures.1
+    (contents c.args.start.now.frame) fits.first.frame v (next_of k held key v rest e) c.next_lines.result
+    c.in-Some-checked_sub.line c.named_places.result c.lines-in-Some-checked_sub.result (omega arith) (omega arith) c.named_places.ensures c.lines-in-Some-checked_sub.ensures
+    (omega (arith, c.lines-in-Some-checked_sub.ensures, (g.S.Store.bounded c.args.self.now.store).few_lines))
+    (c.next_lines.ensures (omega (arith, c.lines-in-Some-checked_sub.ensures, (g.S.Store.bounded c.args.self.now.store).few_lines)))
 
 pub returns-in-Some-2 : goal.returns-in-Some-2
 returns-in-Some-2 g c fits v rest e =
     let k = g.S.Kind.GateKind.means in
     let held = condition_of g.S.Store.means c.args.self.now in
-    let gates = held.store.gates in
-    let sound = fits.sound.sound in
     let key = keyed c.args.key.now in
-    let note = c.args.note.now in
-    let n = next_of k held key v rest e in
-    let o = n.o in
-    let last = c.last_distance-last.result in
-    let e-lines = (get_or held.shelf o.number no_entry).template.lines in
-    let lines : c.lines-lines.result ≡ e-lines =
-    c.lines-lines.ensures ∙ ap (λ (x : TemplateMeaning). x.lines) (template_is k held key o n.begun (omega arith) (template_of c.in-Some.template.now) c.in-Some.ensures.1) in
-    let j = length key - (6 + c.lines-lines.result) in
-    let long : length key ≡ 6 + e-lines + j = omega arith in
-    let frame : contents c.args.start.now.frame ≡ frame_at gates o.first = fits.first.frame ∙ ap (frame_at gates) (number_at k held key o n.begun 0 (omega arith)) in
-    let place : c.in-Some-checked_sub.line - c.lines-lines.result + 1 ≡ suc j = omega arith in
-    let h = place_next k held g.met.S.Kind.GateKind.lawful sound key v n note (fits.whole (omega arith) o n.begun) j last long
-    (c.last_distance-last.ensures ∙ ap (λ (l : ℕ). get_or (0 ∷ drop (6 + l) key) j 0) lines ∙ last_is k held key o n.begun j long) in
-    c.next_places.ensures v h.0
-    ∙ ap₂ (λ (x : ℕ) (gs : List Gate). bit (image_at note x).reached v && (ltb v (length gs) && (ltb last v && movable k gs note.chosen v))) place frame
-    ∙ h.1
+    let l = c.from-lines.result in
+    distance_in_set k held g.met.S.Kind.GateKind.lawful fits.sound.sound key (omega arith) c.args.note.now fits.whole (template_of c.in-Some.template.now) c.in-Some.ensures.1
+    (contents c.args.start.now.frame) fits.first.frame v (next_of k held key v rest e) c.next_places.result
+    l (length key - (6 + l)) c.last_distance-last.result (c.in-Some-checked_sub.line - l + 1) (c.from-lines.ensures ∙ c.lines.ensures) (omega arith) c.last_distance-last.ensures (omega arith) c.next_places.ensures
