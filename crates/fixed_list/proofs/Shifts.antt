@@ -9,7 +9,7 @@ use Rattle.fixed_list.specs.Lists.{pushed, removed}
 
 module _ {T : Type 0} (xs : List T) (count place : ℕ) (there : place < count) (within : count ≤ length xs) where
   -- one item less: those before the place, and those behind it
-  moved_up : take (count - 1) (copy_within xs (place + 1) count place) ≡ remove (take count xs) place
+  pub moved_up : take (count - 1) (copy_within xs (place + 1) count place) ≡ remove (take count xs) place
   moved_up =
       let k = count - (place + 1) in
       let front : count - 1 ≡ place + k = omega arith in

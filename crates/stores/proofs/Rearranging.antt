@@ -1,6 +1,6 @@
 -- Rearrangements: what the test tells, and the table that leads back.
 use Rattle.std.proofs.Common.{◌≡◌, ℕ, zero, suc, ◌+◌, ◌<◌, ◌≤◌, Bool, true, false, cond, not, ◌&&◌, ◌||◌, eqb, ltb, leb, ◌⊎◌, List, [], ◌∷◌, ◌++◌, map, length, get_or, take, drop, set, sym, refl, ap, ◌∙◌, subst, ap₂, inl, inr, arith}
-use Rattle.std.specs.List.{AllByRecursion, list_all, position, position_or_len, range_with_len}
+use Rattle.std.specs.List.{AllByRecursion, insert, list_all, position, position_or_len, range_with_len, remove}
 use Rattle.std.specs.Prelude.{◌==◌, unwrap_or, Some, None}
 use Rattle.std.proofs.lemmas.List.Recursion.{is_position_or_len}
 use Rattle.std.proofs.lemmas.List.Sums.{prefix_len-le-length}
@@ -14,7 +14,6 @@ use Rattle.gates.specs.Members.{every_at, every_same, bit_none}
 use Rattle.gates.specs.ControlSets.{member_at, unmoved_at, unmoved_table}
 use Rattle.gates.specs.declared.gate.Gate.{Gate}
 use Rattle.gates.specs.Kinds.{KindMeaning, KindLaws, Formed}
-use Rattle.std.specs.List.{insert, remove}
 use Rattle.stores.specs.Mounts.{completes, rearranges, place_of, inverse_of, Rearranged, shown_gate}
 
 -- a test of each number below n, begun at the first
