@@ -56,16 +56,16 @@ impl Rearrangement {
         ensures on { length (contents result.new) ≡ (if rearranges lines table.now then lines else 0) }
         ensures value { contents result.new ≡ (if rearranges lines table.now then table.now else []) }
     {
-        let mut old = FixedList::new(0);
         if !is_rearrangement(table, lines) {
-            let new = FixedList::new(0);
-            return Rearrangement { new, old };
-        }
-        for line in 0..lines {
-            let place = find_place(table, line).unwrap_or(table.len());
-            let _ = old.push(place as u8);
+            let none = FixedList::new(0);
+            return Rearrangement {
+                new: none,
+                old: none,
+            };
         }
         let new = FixedList::of(table, 0);
+        let places = (0..lines).map(|line| find_place(table, line).unwrap_or(table.len()) as u8);
+        let old = FixedList::collected(places, 0);
         Rearrangement { new, old }
     }
 
