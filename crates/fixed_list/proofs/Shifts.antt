@@ -1,5 +1,5 @@
 -- Lists in arrays: what moving the later items up leaves.
-use Rattle.std.proofs.Common.{◌≡◌, ℕ, subst, get_or, zero, suc, [], ◌∷◌, refl, slice_set, ◌+◌, ◌-◌, ◌<◌, ◌≤◌, Bool, true, false, nat_lt, List, ◌++◌, length, take, drop, sym, ap, ap₂, ◌∙◌, arith, cond}
+use Rattle.std.proofs.Common.{◌≡◌, ℕ, subst, get_or, zero, suc, [], ◌∷◌, refl, ◌+◌, ◌-◌, ◌<◌, ◌≤◌, Bool, true, false, nat_lt, List, ◌++◌, length, take, drop, sym, ap, ap₂, ◌∙◌, arith, cond}
 use Rattle.std.specs.List.{AllZip, copy_within, remove}
 use Rattle.std.proofs.lemmas.Slice.Zip.{AllZip-long}
 use Rattle.std.proofs.lemmas.Bool.{lt-ltb, ltb-true, ltb_from_iff}
@@ -25,13 +25,6 @@ module _ {T : Type 0} (xs : List T) (count place : ℕ) (there : place < count) 
   shifted =
       let inside : place < length (take count xs) = omega (arith, length-take-le count xs within) in
       moved_up ∙ sym (ap (λ (t : Bool). cond t (remove (take count xs) place) (take count xs)) (lt-ltb place (length (take count xs)) inside))
-
--- an item changed among the first ones
-pub changed_in : {T : Type 0} (n : ℕ) (xs : List T) (i : ℕ) (y : T) → take n (slice_set xs i y) ≡ slice_set (take n xs) i y
-changed_in zero xs i y = refl
-changed_in (suc n) [] i y = refl
-changed_in (suc n) (x ∷ xs) zero y = refl
-changed_in (suc n) (x ∷ xs) (suc i) y = ap (λ (r : List _). x ∷ r) (changed_in n xs i y)
 
 -- one item more on each side
 zip_more : {A B : Type 0} (R : A → B → Type 0) (xs : List A) (ys : List B) (x : A) (y : B) → AllZip R xs ys → R x y → AllZip R (xs ++ x ∷ []) (ys ++ y ∷ [])

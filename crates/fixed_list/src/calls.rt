@@ -92,6 +92,7 @@ impl<T: Copy, const N: usize> FixedList<T, N> {
         requires { F.IsAlwaysCallable turn }
         ensures { AllZip (F.post turn) (contents self.now) (contents result) }
     {
+        // A loop: an array's `map` asks that its iterator fits in memory, which no `T` and `N` show here.
         let mut turned = FixedList::new(blank);
         for item in self.as_slice() {
             let _ = turned.push(turn(*item));
@@ -99,7 +100,7 @@ impl<T: Copy, const N: usize> FixedList<T, N> {
         turned
     }
 
-    // Changes the item at a place, where there is one.
+    // Changes the item at a place, where there is one. By a closure: a lent item would need a starred clause.
     pub fn change<F: FnOnce(&mut T)>(&mut self, place: usize, change: F)
         requires { F.IsAlwaysCallable change }
         ensures there { place < length (contents self.old) → Changed F.FnOnce change (contents self.old) place (contents self.new) }

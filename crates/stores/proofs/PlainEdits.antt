@@ -3,7 +3,7 @@ use Rattle.std.proofs.Common.{◌≡◌, ℕ, ◌+◌, ◌-◌, ◌<◌, ◌≤�
 use Rattle.std.specs.List.{copy_within, insert}
 use Rattle.std.proofs.lemmas.List.{append_assoc, drop-set-lt, drop-take, length-drop, length-take-le, set_at, take-take, take_more}
 use Rattle.std.proofs.lemmas.List.Edits.{drop-paste, take-paste}
-use Rattle.fixed_list.proofs.Shifts.{changed_in}
+use Rattle.std.proofs.Math.Seq.{take-set-lt}
 
 module _ {X : Type 0} (xs : List X) (n p : ℕ) where
   -- the records from a place on, up to place n, moved up by one, and a record written there
@@ -36,7 +36,7 @@ module _ {X : Type 0} (xs : List X) (n p : ℕ) where
     pub front_inserted : take (n + 1) (set (copy_within xs p n (p + 1)) p y) ≡ insert (take n xs) p y
     unfolding k up
     front_inserted =
-        changed_in (n + 1) up p y
+        take-set-lt (n + 1) up p y (omega arith)
         ∙ ap (λ (r : List X). set r p y) moved
         ∙ set_at (take p xs) (get_or xs p y) (take k (drop p xs)) y p (length-take-le p xs (omega arith))
         ∙ ap₂ (λ (u v : List X). u ++ y ∷ v)

@@ -7,7 +7,7 @@ use Rattle.std.proofs.lemmas.Bool.{ltb-true, lt-ltb, ltb_from_iff}
 use Rattle.gates.specs.declared.gate.Gate.{Gate}
 use Rattle.stores.specs.Stores.{StoreMeaning, with_gates}
 use Rattle.stores.specs.Mounts.{windowed, window, start_in, size_in}
-use Rattle.fixed_list.proofs.Shifts.{changed_in}
+use Rattle.std.proofs.Math.Seq.{take-set-lt}
 
 module _ {X : Type 0} where
   drop_inserted : (xs : List X) (s q : ℕ) (y : X) → s ≤ q → q ≤ length xs → drop s (insert xs q y) ≡ insert (drop s xs) (q - s) y
@@ -96,7 +96,7 @@ module _ (m : StoreMeaning) (s n p : ℕ) (fits : s + n ≤ length m.gates) wher
       ap₂ (λ (a b : ℕ). windowed a b (with_gates m ys)) first many
       ∙ same_parts m.lines _ _ _ _ _ _ _ _ m.outside
       (ap (λ (c : ℕ). m.capacity - (c - n)) long)
-      (ap (take n) (drop-set-add s xs p y) ∙ changed_in n (drop s xs) p y)
+      (ap (take n) (drop-set-add s xs p y) ∙ take-set-lt n (drop s xs) p y lt)
       (take-set-le s xs (s + p) y (omega arith))
       (drop-set-lt (s + n) xs (s + p) y (omega arith))
 
