@@ -1,15 +1,15 @@
 -- Lists in arrays: what moving the later items up leaves.
-use Rattle.std.proofs.Common.{◌≡◌, ℕ, subst, get_or, zero, suc, [], ◌∷◌, refl, slice_set, ◌+◌, ◌-◌, ◌<◌, ◌≤◌, Bool, List, ◌++◌, length, take, drop, sym, ap, ap₂, ◌∙◌, arith, cond}
+use Rattle.std.proofs.Common.{◌≡◌, ℕ, subst, get_or, zero, suc, [], ◌∷◌, refl, ◌+◌, ◌-◌, ◌<◌, ◌≤◌, Bool, true, false, nat_lt, List, ◌++◌, length, take, drop, sym, ap, ap₂, ◌∙◌, arith, cond}
 use Rattle.std.specs.List.{AllZip, copy_within, remove}
 use Rattle.std.proofs.lemmas.Slice.Zip.{AllZip-long}
-use Rattle.std.proofs.lemmas.Bool.{lt-ltb}
+use Rattle.std.proofs.lemmas.Bool.{lt-ltb, ltb-true, ltb_from_iff}
 use Rattle.std.proofs.lemmas.List.{drop-take, take-take, take_more, length-drop, length-take-le}
 use Rattle.std.proofs.lemmas.List.Edits.{take-paste}
 use Rattle.fixed_list.specs.Lists.{pushed, removed}
 
 module _ {T : Type 0} (xs : List T) (count place : ℕ) (there : place < count) (within : count ≤ length xs) where
   -- one item less: those before the place, and those behind it
-  moved_up : take (count - 1) (copy_within xs (place + 1) count place) ≡ remove (take count xs) place
+  pub moved_up : take (count - 1) (copy_within xs (place + 1) count place) ≡ remove (take count xs) place
   moved_up =
       let k = count - (place + 1) in
       let front : count - 1 ≡ place + k = omega arith in
@@ -26,13 +26,6 @@ module _ {T : Type 0} (xs : List T) (count place : ℕ) (there : place < count) 
       let inside : place < length (take count xs) = omega (arith, length-take-le count xs within) in
       moved_up ∙ sym (ap (λ (t : Bool). cond t (remove (take count xs) place) (take count xs)) (lt-ltb place (length (take count xs)) inside))
 
--- an item changed among the first ones
-pub changed_in : {T : Type 0} (n : ℕ) (xs : List T) (i : ℕ) (y : T) → take n (slice_set xs i y) ≡ slice_set (take n xs) i y
-changed_in zero xs i y = refl
-changed_in (suc n) [] i y = refl
-changed_in (suc n) (x ∷ xs) zero y = refl
-changed_in (suc n) (x ∷ xs) (suc i) y = ap (λ (r : List _). x ∷ r) (changed_in n xs i y)
-
 -- one item more on each side
 zip_more : {A B : Type 0} (R : A → B → Type 0) (xs : List A) (ys : List B) (x : A) (y : B) → AllZip R xs ys → R x y → AllZip R (xs ++ x ∷ []) (ys ++ y ∷ [])
 zip_more R [] [] x y zipped one = (one, tt)
@@ -47,3 +40,20 @@ turned_more R xs ys i most d y inside few zipped one =
     let room : length ys < most = omega (arith, AllZip-long R (take i xs) ys zipped, length-take-le i xs (omega arith)) in
     subst (AllZip R (take (i + 1) xs)) (sym (ap (λ (t : Bool). cond t (ys ++ y ∷ []) ys) (lt-ltb (length ys) most room)))
     (subst (λ (zs : List _). AllZip R zs (ys ++ y ∷ [])) (sym (take_more xs i d inside)) (zip_more R (take i xs) ys (get_or xs i d) y zipped one))
+
+-- an item behind the first ones of a list, where there is room
+pub pushed_first : {T : Type 0} (most : ℕ) (xs : List T) (x : T) → pushed most (take most xs) x ≡ take most (xs ++ x ∷ [])
+pushed_first zero xs x = refl
+pushed_first (suc zero) [] x = refl
+pushed_first (suc (suc most)) [] x = ap (λ (t : Bool). cond t (x ∷ []) []) (lt-ltb 0 (suc (suc most)) (omega arith))
+pushed_first (suc most) (y ∷ xs) x =
+    ap (λ (t : Bool). cond t (y ∷ (take most xs ++ x ∷ [])) (y ∷ take most xs)) (less (length (take most xs)) most)
+    ∙ more (nat_lt (length (take most xs)) most) (take most xs)
+    ∙ ap (λ (r : List _). y ∷ r) (pushed_first most xs x)
+  where
+    less : (n m : ℕ) → nat_lt (suc n) (suc m) ≡ nat_lt n m
+    less n m = ltb_from_iff (λ e. let lt : suc n < suc m = ltb-true (suc n) (suc m) e in omega arith, λ lt. lt-ltb (suc n) (suc m) (omega arith))
+
+    more : (b : Bool) (zs : List _) → cond b (y ∷ (zs ++ x ∷ [])) (y ∷ zs) ≡ y ∷ cond b (zs ++ x ∷ []) zs
+    more true zs = refl
+    more false zs = refl

@@ -1,5 +1,6 @@
 -- Lists in arrays: what is in them, and what calls leave.
-use Rattle.std.specs.Prelude.{◌≡◌, ℕ, cond, slice_index_or, slice_set, List, [], ◌∷◌, ◌++◌, length, take, Ok, Err, Result, nat_lt}
+use Rattle.std.specs.Prelude.{◌≡◌, ℕ, cond, slice_index_or, slice_set, List, [], ◌∷◌, ◌++◌, length, take, Option, Ok, Err, Result, nat_lt}
+use Rattle.std.specs.Iterator.{Drains}
 use Rattle.std.specs.List.{remove}
 use Rattle.std.specs.Fn.{FnOnceReturnsAtMut}
 use denote.Param.Members.{Once}
@@ -18,6 +19,12 @@ pushed most items item = cond (nat_lt (length items) most) (items ++ item ∷ []
 -- whether there is room
 abbrev pub push_outcome : {T : Type 0} → ℕ → List T → Result (Unit {0}) Full
 push_outcome most items = cond (nat_lt (length items) most) (Ok tt) (Err record {})
+
+-- the items are the first that an iterator gives, all of them where it gives no more than there is room for
+pub record Collected {S T : Type 0} (steps : S → Option T → S → Type 0) (iterator : S) (most : ℕ) (items : List T) : Type 0 where
+  pub given : List T
+  pub all : Drains steps iterator given
+  pub first : items ≡ take most given
 
 -- the list without the item at a place, where there is one
 abbrev pub removed : {T : Type 0} → List T → ℕ → List T

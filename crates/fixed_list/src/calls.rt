@@ -1,7 +1,8 @@
 // The calls of a list.
 ghost use Rattle.std.specs.Prelude.{◌≡◌, ◌<◌, ◌≤◌, [], length, take, slice_get};
 ghost use Rattle.std.specs.List.{AllZip};
-ghost use Rattle.fixed_list.specs.Lists.{Changed, contents, push_outcome, pushed, removed};
+ghost use Rattle.std.specs.Iterator.{IsFinite};
+ghost use Rattle.fixed_list.specs.Lists.{Changed, Collected, contents, push_outcome, pushed, removed};
 
 use super::FixedList;
 
@@ -28,6 +29,19 @@ impl<T: Copy, const N: usize> FixedList<T, N> {
         let count = slice.len().min(N);
         items[..count].copy_from_slice(&slice[..count]);
         FixedList { items, count }
+    }
+
+    // The list of the items that an iterator gives, those beyond the first `N` left out.
+    pub fn collected<I: Iterator<Item = T> + Drop>(items: I, blank: T) -> FixedList<T, N>
+        requires can { I.can_next items }
+        requires ends { IsFinite (I.remaining items) }
+        ensures { Collected I.next_gives items N (contents result) }
+    {
+        let mut collected = FixedList::new(blank);
+        for item in items {
+            let _ = collected.push(item);
+        }
+        collected
     }
 
     // How many items the list has.
@@ -78,6 +92,7 @@ impl<T: Copy, const N: usize> FixedList<T, N> {
         requires { F.IsAlwaysCallable turn }
         ensures { AllZip (F.post turn) (contents self.now) (contents result) }
     {
+        // A loop: an array's `map` asks that its iterator fits in memory, which no `T` and `N` show here.
         let mut turned = FixedList::new(blank);
         for item in self.as_slice() {
             let _ = turned.push(turn(*item));
@@ -85,7 +100,7 @@ impl<T: Copy, const N: usize> FixedList<T, N> {
         turned
     }
 
-    // Changes the item at a place, where there is one.
+    // Changes the item at a place, where there is one. By a closure: a lent item would need a starred clause.
     pub fn change<F: FnOnce(&mut T)>(&mut self, place: usize, change: F)
         requires { F.IsAlwaysCallable change }
         ensures there { place < length (contents self.old) → Changed F.FnOnce change (contents self.old) place (contents self.new) }

@@ -4,6 +4,7 @@ ghost use Rattle.std.specs.Prelude.{◌≡◌, ◌≤◌, length, ⊤};
 use std::alloc::AllocError;
 
 // The items of a list of at most `N`.
+// No model: a copy has to give back its fields, and what stands behind the items is in no view.
 #[derive(Copy, Debug)]
 pub struct FixedList<T, const N: usize> {
     pub(crate) items: [T; N],
@@ -12,7 +13,7 @@ pub struct FixedList<T, const N: usize> {
     ghost few: { count ≤ N },
 }
 
-// A copy is a clone.
+// A copy is a clone. By hand: a derive is refused beside a ghost field.
 impl<T: Copy, const N: usize> Clone for FixedList<T, N> {
     ghost is_clone = { λ list copy. copy ≡ list };
 

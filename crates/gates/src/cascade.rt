@@ -7,6 +7,7 @@ ghost use Rattle.gates.specs.Lines.{bit};
 use super::{Gate, GateKind, LineSet};
 
 // The state that the cascade sends this one to: each gate of the list once, first to last.
+// A plain loop over the records: here the time goes.
 pub fn run_cascade<K: GateKind>(gates: &[Gate], state: LineSet) -> LineSet
     ensures { bit result ≡ run K.means gates.now (bit state) }
 {

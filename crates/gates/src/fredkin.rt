@@ -17,7 +17,7 @@ fn is_clear_of(first: Gate, second: Gate) -> bool
     !second.has_control(first.a) && !second.has_control(first.b)
 }
 
-// Whether the gates exchange the same two lines.
+// Whether the gates exchange the same two lines: two fields of four, which `==` would all ask.
 fn have_same_pair(first: Gate, second: Gate) -> bool
     ensures { result ≡ same_pair first second }
 {
@@ -33,7 +33,7 @@ fn have_disjoint_pairs(first: Gate, second: Gate) -> bool
 
 // The state with the values of two lines exchanged.
 fn swap_lines(state: LineSet, a: u8, b: u8) -> LineSet
-    requires { (a < 32) × (b < 32) }
+    requires { (a < WIDTH) × (b < WIDTH) }
     ensures { bit result ≡ swapped a b (bit state) }
 {
     if sets::has_line(state, a) == sets::has_line(state, b) {

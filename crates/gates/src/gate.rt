@@ -1,6 +1,7 @@
 // The record that serves every kind of gate, and sets of lines.
 
 // A set of lines, line i at the bit of weight 2^i; also a state: the set of the lines that are 1.
+// A plain number, so that `0..1 << lines` are all states.
 pub type LineSet = u32;
 
 // How many lines a `LineSet` can speak of: no cascade has more.

@@ -44,7 +44,7 @@ pub fn exchange(chosen: LineSet, set: LineSet, other: LineSet) -> LineSet
 pub fn new_line(table: &[u8], line: u8) -> u8
     ensures { result ≡ slice_index table.now line }
 {
-    table.get(line as usize).copied().unwrap_or(0)
+    table.get(usize::from(line)).copied().unwrap_or(0)
 }
 
 // The new lines of the set's lines.

@@ -6,7 +6,7 @@ use Rattle.std.proofs.lemmas.List.{append_assoc, length-append, length-drop, len
 use Rattle.gates.specs.declared.gate.Gate.{Gate}
 use Rattle.std.proofs.lemmas.Bool.{cond_both, ltb-true, ltb-false}
 use Rattle.stores.specs.Memory.{around_gap, record_of, in_memory, GapMoved}
-use Rattle.stores.proofs.Outcomes.{take_set_in}
+use Rattle.std.proofs.Math.Seq.{take-set-lt}
 
 module _ (xs : List Gate) (f b : ℕ) (within : f + b ≤ length xs) where
   front_long : length (take f xs) ≡ f
@@ -18,7 +18,7 @@ module _ (xs : List Gate) (f b : ℕ) (within : f + b ≤ length xs) where
   pub write_front : (p : ℕ) (y : Gate) → p < f → around_gap (set xs p y) f b ≡ set (around_gap xs f b) p y
   write_front p y lt =
       ap (λ (n : ℕ). take f (set xs p y) ++ drop (n - b) (set xs p y)) (length-set xs p y)
-      ∙ ap₂ ◌++◌ (take_set_in f xs p y) (drop-set-lt (length xs - b) xs p y (let h : p < length xs - b = omega arith in h))
+      ∙ ap₂ ◌++◌ (take-set-lt f xs p y lt) (drop-set-lt (length xs - b) xs p y (let h : p < length xs - b = omega arith in h))
       ∙ sym (set-append_left (take f xs) (drop (length xs - b) xs) p y (omega (arith, front_long)))
 
   pub write_back : (p : ℕ) (y : Gate) → f ≤ p → p < f + b → around_gap (set xs (p + (length xs - (f + b))) y) f b ≡ set (around_gap xs f b) p y

@@ -1,4 +1,3 @@
-pub mod Shifts
 pub mod Outcomes
 pub mod PlainEdits
 pub mod GapEdits

@@ -1,11 +1,9 @@
 -- The lists at the front of records after an edit.
-use Rattle.std.proofs.Common.{◌≡◌, ℕ, ◌+◌, ◌-◌, ◌<◌, ◌≤◌, Bool, cond, List, ◌∷◌, ◌++◌, length, [], get_or, take, drop, set, sym, ap, ◌∙◌, ap₂, arith}
-use Rattle.std.specs.List.{copy_within, insert, remove}
-use Rattle.std.proofs.lemmas.List.{append_assoc, drop-set-lt, drop-take, length-drop, length-take-le, set_at, take-take, take_at, take_more}
-use Rattle.std.proofs.lemmas.List.Edits.{drop-paste, length-remove, take-paste}
-use Rattle.std.proofs.lemmas.Bool.{lt-ltb}
-use Rattle.fixed_list.proofs.Shifts.{shifted}
-use Rattle.stores.proofs.Outcomes.{take_set_in}
+use Rattle.std.proofs.Common.{◌≡◌, ℕ, ◌+◌, ◌-◌, ◌<◌, ◌≤◌, List, ◌∷◌, ◌++◌, length, [], get_or, take, drop, set, sym, ap, ◌∙◌, ap₂, arith}
+use Rattle.std.specs.List.{copy_within, insert}
+use Rattle.std.proofs.lemmas.List.{append_assoc, drop-set-lt, drop-take, length-drop, length-take-le, set_at, take-take, take_more}
+use Rattle.std.proofs.lemmas.List.Edits.{drop-paste, take-paste}
+use Rattle.std.proofs.Math.Seq.{take-set-lt}
 
 module _ {X : Type 0} (xs : List X) (n p : ℕ) where
   -- the records from a place on, up to place n, moved up by one, and a record written there
@@ -38,7 +36,7 @@ module _ {X : Type 0} (xs : List X) (n p : ℕ) where
     pub front_inserted : take (n + 1) (set (copy_within xs p n (p + 1)) p y) ≡ insert (take n xs) p y
     unfolding k up
     front_inserted =
-        take_set_in (n + 1) up p y
+        take-set-lt (n + 1) up p y (omega arith)
         ∙ ap (λ (r : List X). set r p y) moved
         ∙ set_at (take p xs) (get_or xs p y) (take k (drop p xs)) y p (length-take-le p xs (omega arith))
         ∙ ap₂ (λ (u v : List X). u ++ y ∷ v)
@@ -52,20 +50,3 @@ module _ {X : Type 0} (xs : List X) (n p : ℕ) where
         ∙ ap (λ (i : ℕ). drop i up) end
         ∙ drop-paste xs (p + 1) (drop p xs) k inside some
         ∙ ap (λ (i : ℕ). drop i xs) (sym end)
-
--- the records behind a place, up to place n, moved down by one
-pub removed_moved : {X : Type 0} (xs : List X) (n p : ℕ) → p < n → n ≤ length xs → take (n - 1) (copy_within xs (p + 1) n p) ≡ remove (take n xs) p
-removed_moved xs n p lt le =
-    let here : p < length (take n xs) = omega (arith, length-take-le n xs le) in
-    shifted xs n p lt le ∙ ap (λ (b : Bool). cond b (remove (take n xs) p) (take n xs)) (lt-ltb p (length (take n xs)) here)
-
-module _ {X : Type 0} (xs : List X) (n : ℕ) where
-  module _ (p : ℕ) (lt : p < n) (le : n ≤ length xs) where
-    short : length (remove (take n xs) p) ≡ n - 1
-    short =
-        let few : length (take n xs) ≡ n = length-take-le n xs le in
-        let within : p < length (take n xs) = omega arith in
-        omega (arith, length-remove (take n xs) p within)
-
-    pub front_removed : take (n - 1) (remove (take n xs) p ++ drop (n - 1) xs) ≡ remove (take n xs) p
-    front_removed = take_at (remove (take n xs) p) (drop (n - 1) xs) (n - 1) short

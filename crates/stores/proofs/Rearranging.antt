@@ -1,6 +1,6 @@
 -- Rearrangements: what the test tells, and the table that leads back.
 use Rattle.std.proofs.Common.{◌≡◌, ℕ, zero, suc, ◌+◌, ◌<◌, ◌≤◌, Bool, true, false, cond, not, ◌&&◌, ◌||◌, eqb, ltb, leb, ◌⊎◌, List, [], ◌∷◌, ◌++◌, map, length, get_or, take, drop, set, sym, refl, ap, ◌∙◌, subst, ap₂, inl, inr, arith}
-use Rattle.std.specs.List.{AllByRecursion, list_all, position, position_or_len, range_with_len}
+use Rattle.std.specs.List.{AllByRecursion, insert, list_all, position, position_or_len, range_with_len, remove}
 use Rattle.std.specs.Prelude.{◌==◌, unwrap_or, Some, None}
 use Rattle.std.proofs.lemmas.List.Recursion.{is_position_or_len}
 use Rattle.std.proofs.lemmas.List.Sums.{prefix_len-le-length}
@@ -14,7 +14,6 @@ use Rattle.gates.specs.Members.{every_at, every_same, bit_none}
 use Rattle.gates.specs.ControlSets.{member_at, unmoved_at, unmoved_table}
 use Rattle.gates.specs.declared.gate.Gate.{Gate}
 use Rattle.gates.specs.Kinds.{KindMeaning, KindLaws, Formed}
-use Rattle.std.specs.List.{insert, remove}
 use Rattle.stores.specs.Mounts.{completes, rearranges, place_of, inverse_of, Rearranged, shown_gate}
 
 -- a test of each number below n, begun at the first
@@ -170,14 +169,6 @@ module _ (n : ℕ) (t : List ℕ) (h : rearranges n t ≡ true) where
     redone = λ i il. ap (λ (x : ℕ). get_or t x 0) (back_at i il) ∙ (found i il).1;
   }
 
--- one number more
-pub counted_more : (i few : ℕ) → counted i (few + 1) ≡ counted i few ++ (i + few) ∷ []
-counted_more i few = ap (counted i) (let e : few + 1 ≡ suc few = omega arith in e) ∙ further i few
-  where
-    further : (i few : ℕ) → counted i (suc few) ≡ counted i few ++ (i + few) ∷ []
-    further i zero = ap (λ (n : ℕ). n ∷ []) (let e : i ≡ i + 0 = omega arith in e)
-    further i (suc few) = ap (λ (r : List ℕ). i ∷ r) (further (suc i) few ∙ ap (λ (n : ℕ). counted (suc i) few ++ n ∷ []) (let e : suc i + few ≡ i + suc few = omega arith in e))
-
 -- no lines, rearranged
 pub none_rearranged : rearranges 0 [] ≡ true
 unfolding every_below
@@ -190,6 +181,16 @@ sized n t h = (long n t (sym h), few n t (sym h))
 -- so it is taken whole where there is room for the lines
 pub taken : (n : ℕ) (t : List ℕ) → true ≡ rearranges n t → take width t ≡ t
 taken n t h = take_all width t (let size = sized n t h in omega (arith, size.0, size.1))
+
+-- the places of the lines are taken whole as well
+pub places_taken : (t : List ℕ) (n : ℕ) → n ≤ width → take width (map (place_of t) (range_with_len 0 n)) ≡ inverse_of n t
+places_taken t n few =
+    ap (λ (r : List ℕ). take width (map (place_of t) r)) (in_range 0 n)
+    ∙ take_all width (inverse_of n t) (omega (arith, length-map (counted 0 n) (place_of t), (unmoved_table n few).long, few))
+  where
+    in_range : (i few : ℕ) → range_with_len i few ≡ counted i few
+    in_range i zero = refl
+    in_range i (suc few) = ap (λ (r : List ℕ). i ∷ r) (ap (λ (j : ℕ). range_with_len j few) (let e : i + 1 ≡ suc i = omega arith in e) ∙ in_range (suc i) few)
 
 -- a gate that is written through the old lines is shown as it was, and is well formed
 pub written_back : {k : KindMeaning} → KindLaws k → (new old : List ℕ) → rearranges (length new) new ≡ true → old ≡ inverse_of (length new) new

@@ -1,12 +1,13 @@
 -- Windows: what an edit inside leaves of the list between its outsides, and of these.
-use Rattle.std.proofs.Common.{◌≡◌, ℕ, zero, suc, ◌+◌, ◌-◌, ◌<◌, ◌≤◌, min, List, [], ◌∷◌, length, take, drop, set, refl, ap, ◌∙◌, ap₂, arith}
+use Rattle.std.proofs.Common.{◌≡◌, ℕ, zero, suc, ◌+◌, ◌-◌, ◌<◌, ◌≤◌, ltb, min, List, [], ◌∷◌, length, take, drop, set, refl, ap, ◌∙◌, ap₂, arith}
 use Rattle.std.specs.List.{insert, remove}
 use Rattle.std.proofs.lemmas.List.{length-take, length-drop, length-set, drop-set-add, take-set-le, drop-set-lt}
 use Rattle.std.proofs.lemmas.List.Edits.{length-insert, length-remove}
+use Rattle.std.proofs.lemmas.Bool.{ltb-true, lt-ltb, ltb_from_iff}
 use Rattle.gates.specs.declared.gate.Gate.{Gate}
 use Rattle.stores.specs.Stores.{StoreMeaning, with_gates}
 use Rattle.stores.specs.Mounts.{windowed, window, start_in, size_in}
-use Rattle.stores.proofs.Outcomes.{take_set_in}
+use Rattle.std.proofs.Math.Seq.{take-set-lt}
 
 module _ {X : Type 0} where
   drop_inserted : (xs : List X) (s q : ℕ) (y : X) → s ≤ q → q ≤ length xs → drop s (insert xs q y) ≡ insert (drop s xs) (q - s) y
@@ -75,6 +76,15 @@ module _ (m : StoreMeaning) (s n p : ℕ) (fits : s + n ≤ length m.gates) wher
   pub window_long : length (take n (drop s m.gates)) ≡ n
   window_long = omega (arith, length-take n (drop s m.gates), length-drop s m.gates)
 
+  -- there is room in the window exactly when there is room below
+  pub window_room : ltb (length m.gates) m.capacity ≡ ltb (length (windowed s n m).gates) (windowed s n m).capacity
+  window_room =
+      let all = length m.gates in
+      ltb_from_iff (
+        λ e. let lt : all < m.capacity = ltb-true all m.capacity e in omega (arith, lt, window_long, fits),
+        λ lt. lt-ltb all m.capacity (omega (arith, lt, window_long, fits)),
+      )
+
   pub window_set : (y : Gate) → p < n → window s n (with_gates m (set m.gates (s + p) y)) ≡ with_gates (windowed s n m) (set (take n (drop s m.gates)) p y)
   unfolding parts
   window_set y lt =
@@ -86,7 +96,7 @@ module _ (m : StoreMeaning) (s n p : ℕ) (fits : s + n ≤ length m.gates) wher
       ap₂ (λ (a b : ℕ). windowed a b (with_gates m ys)) first many
       ∙ same_parts m.lines _ _ _ _ _ _ _ _ m.outside
       (ap (λ (c : ℕ). m.capacity - (c - n)) long)
-      (ap (take n) (drop-set-add s xs p y) ∙ take_set_in n (drop s xs) p y)
+      (ap (take n) (drop-set-add s xs p y) ∙ take-set-lt n (drop s xs) p y lt)
       (take-set-le s xs (s + p) y (omega arith))
       (drop-set-lt (s + n) xs (s + p) y (omega arith))
 

@@ -1,7 +1,6 @@
 -- What a store means, what its calls answer and what they leave.
 use Rattle.std.specs.Prelude.{ℕ, ◌≤◌, Bool, cond, List, length, Ok, Err, Result, nat_le, nat_lt, slice_index_or, slice_set}
-use Rattle.std.specs.List.{AllByRecursion}
-use Rattle.std.specs.List.{insert, remove}
+use Rattle.std.specs.List.{AllByRecursion, insert, remove}
 use Rattle.gates.specs.declared.gate.Gate.{Gate}
 use Rattle.gates.specs.declared.gate.GateRefusal.TheVariants.{NotWellFormed}
 use Rattle.gates.specs.Refusals.{gate_refusal_number}
@@ -69,6 +68,10 @@ place_outcome place count = provided (nat_lt place count) NoSuchPlace (Ok tt)
 -- asking for a place before which a gate can come in: 9 where there is none
 abbrev pub place_before_outcome : ℕ → ℕ → Result (Unit {0}) StoreRefusal
 place_before_outcome place count = provided (nat_le place count) NoSuchPlace (Ok tt)
+
+-- asking for room for one gate more: 3 where there is none
+abbrev pub room_outcome : ℕ → ℕ → Result (Unit {0}) StoreRefusal
+room_outcome count capacity = provided (nat_lt count capacity) Full (Ok tt)
 
 -- the gate at a place; past the end some gate, which no answer shows
 abbrev pub at : StoreMeaning → ℕ → Gate

@@ -5,7 +5,7 @@ ghost use Rattle.stores.specs.Memory.{GapMoved, apart, gap, made_lines, moved_by
 ghost use Rattle.stores.specs.MemoryFacts.{gap_bounded};
 ghost use Rattle.stores.specs.Stores.{after, answer, insert_outcome, remove_outcome};
 
-use super::checks::{check_place, check_place_before, made_lines};
+use super::checks::{check_place, check_place_before, check_room, made_lines};
 use super::{GapStore, MOST, Store, StoreRefusal};
 use gates::{Gate, GateKind, check_gate};
 use std::marker::PhantomData;
@@ -111,9 +111,7 @@ impl<K: GateKind> Store for GapStore<'_, K> {
         let count = self.count();
         check_place_before(place, count)?;
         check_gate::<K>(gate, self.lines)?;
-        if count >= self.capacity() {
-            return Err(StoreRefusal::Full);
-        }
+        check_room(count, self.capacity())?;
         self.moved = self.move_gap(place);
         self.records[place] = gate;
         self.front = place + 1;

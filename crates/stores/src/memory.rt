@@ -1,5 +1,7 @@
 // Stores in memory that the caller lends: what is kept of each.
 ghost use Rattle.std.specs.Prelude.{◌+◌, ◌≤◌, length};
+ghost use Rattle.gates.specs.declared.gate.TheConstants.{WIDTH};
+ghost use Rattle.stores.specs.declared.plain.TheConstants.{MOST};
 
 use gates::Gate;
 use std::marker::PhantomData;
@@ -13,9 +15,9 @@ pub struct PlainStore<'a, K> {
     pub(crate) lines: u8,
     pub(crate) kind: PhantomData<K>,
     ghost some_line: { 1 ≤ lines },
-    ghost few_lines: { lines ≤ 32 },
+    ghost few_lines: { lines ≤ WIDTH },
     ghost within: { count ≤ length records.now },
-    ghost few: { count ≤ 4096 },
+    ghost few: { count ≤ MOST },
 }
 
 // A list of gates around a gap of free records, so that edits near one place move few records.
@@ -29,7 +31,7 @@ pub struct GapStore<'a, K> {
     pub(crate) moved: usize,
     pub(crate) kind: PhantomData<K>,
     ghost some_line: { 1 ≤ lines },
-    ghost few_lines: { lines ≤ 32 },
+    ghost few_lines: { lines ≤ WIDTH },
     ghost within: { front + back ≤ length records.now },
-    ghost few: { front + back ≤ 4096 },
+    ghost few: { front + back ≤ MOST },
 }

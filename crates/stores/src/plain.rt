@@ -5,7 +5,7 @@ ghost use Rattle.stores.specs.Memory.{made_lines, plain};
 ghost use Rattle.stores.specs.MemoryFacts.{plain_bounded};
 ghost use Rattle.stores.specs.Stores.{after, answer, insert_outcome, overwrite_outcome, remove_outcome};
 
-use super::checks::{check_place, check_place_before, made_lines};
+use super::checks::{check_place, check_place_before, check_room, made_lines};
 use super::{PlainStore, Store, StoreRefusal};
 use gates::{Gate, GateKind, check_gate};
 use std::marker::PhantomData;
@@ -81,9 +81,7 @@ impl<K: GateKind> Store for PlainStore<'_, K> {
         let count = self.count;
         check_place_before(place, count)?;
         check_gate::<K>(gate, self.lines)?;
-        if count >= self.capacity() {
-            return Err(StoreRefusal::Full);
-        }
+        check_room(count, self.capacity())?;
         self.records.copy_within(place..count, place + 1);
         self.records[place] = gate;
         self.count = count + 1;

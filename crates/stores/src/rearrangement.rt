@@ -9,6 +9,7 @@ use fixed_list::FixedList;
 use gates::{LineSet, WIDTH, sets};
 
 // A rearrangement of lines: the new line of each line, and the old line of each. Of no lines where none is known.
+// Two lists, since a kind renames by one table as a slice.
 #[derive(Clone, Copy)]
 pub struct Rearrangement {
     new: FixedList<u8, 32>,
@@ -25,10 +26,11 @@ fn has_all_lines(set: LineSet, lines: u8) -> bool
 }
 
 // Whether the table is a rearrangement of so many lines.
+// Asks twice, that no line stands twice and that each stands, so that neither rests on counting.
 pub fn is_rearrangement(table: &[u8], lines: u8) -> bool
     ensures { result ≡ rearranges lines table.now }
 {
-    if lines > WIDTH || table.len() != lines as usize {
+    if lines > WIDTH || table.len() != usize::from(lines) {
         return false;
     }
     let mut seen: LineSet = 0;
@@ -54,16 +56,16 @@ impl Rearrangement {
         ensures on { length (contents result.new) ≡ (if rearranges lines table.now then lines else 0) }
         ensures value { contents result.new ≡ (if rearranges lines table.now then table.now else []) }
     {
-        let mut old = FixedList::new(0);
         if !is_rearrangement(table, lines) {
-            let new = FixedList::new(0);
-            return Rearrangement { new, old };
-        }
-        for line in 0..lines {
-            let place = find_place(table, line).unwrap_or(table.len());
-            let _ = old.push(place as u8);
+            let none = FixedList::new(0);
+            return Rearrangement {
+                new: none,
+                old: none,
+            };
         }
         let new = FixedList::of(table, 0);
+        let places = (0..lines).map(|line| find_place(table, line).unwrap_or(table.len()) as u8);
+        let old = FixedList::collected(places, 0);
         Rearrangement { new, old }
     }
 

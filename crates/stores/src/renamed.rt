@@ -47,7 +47,7 @@ impl<S: Store> Renamed<S> {
     fn through(&self, table: &[u8], gate: Gate) -> Gate
         ensures { result ≡ shown_gate S.Kind.means table.now (S.means self.now.below).lines gate }
     {
-        if table.len() == self.below.lines() as usize {
+        if table.len() == usize::from(self.below.lines()) {
             S::Kind::renamed(gate, table)
         } else {
             gate
@@ -75,7 +75,6 @@ impl<S: Store> Store for Renamed<S> {
     }
 
     fn read(&self, place: usize) -> Result<Gate, StoreRefusal> {
-        check_place(place, self.below.count())?;
         let gate = self.below.read(place)?;
         Ok(self.through(self.table.new_lines(), gate))
     }
@@ -95,7 +94,6 @@ impl<S: Store> Store for Renamed<S> {
     }
 
     fn remove(&mut self, place: usize) -> Result<Gate, StoreRefusal> {
-        check_place(place, self.below.count())?;
         let gate = self.below.remove(place)?;
         Ok(self.through(self.table.new_lines(), gate))
     }

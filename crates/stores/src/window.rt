@@ -5,7 +5,7 @@ ghost use Rattle.stores.specs.Mounts.{start_in, window, window_made, window_outc
 
 use super::checks::{check_place, check_place_before};
 use super::{Store, StoreRefusal};
-use gates::{Gate, GateKind, check_gate};
+use gates::Gate;
 
 // Shows so many gates of the store below from a place on; it grows and shrinks with its list, and the gates outside it stay.
 #[derive(Drop)]
@@ -81,7 +81,6 @@ impl<S: Store> Store for Window<S> {
 
     fn overwrite(&mut self, place: usize, gate: Gate) -> Result<(), StoreRefusal> {
         check_place(place, self.count())?;
-        check_gate::<S::Kind>(gate, self.below.lines())?;
         let first = self.first();
         self.below.overwrite(first + place, gate)
     }
@@ -89,15 +88,11 @@ impl<S: Store> Store for Window<S> {
     fn insert(&mut self, place: usize, gate: Gate) -> Result<(), StoreRefusal> {
         let size = self.count();
         check_place_before(place, size)?;
-        check_gate::<S::Kind>(gate, self.below.lines())?;
-        if self.below.count() >= self.below.capacity() {
-            return Err(StoreRefusal::Full);
-        }
         let first = self.first();
-        let answer = self.below.insert(first + place, gate);
+        self.below.insert(first + place, gate)?;
         self.start = first;
         self.size = size + 1;
-        answer
+        Ok(())
     }
 
     fn remove(&mut self, place: usize) -> Result<Gate, StoreRefusal> {

@@ -35,4 +35,4 @@ returns c =
     let n = c.args.lines in
     c.has_all_lines.ensures ∙ all_listed n (bit c.loop-line.seen) ∙ sym (completes_ends n c.loop-line.seen t c.loop-line.line-index c.loop-line-test.false) ∙ c.loop-line.invariant
     ∙ sym (ap (λ (b : Bool). b && (eqb (length t) n && completes n 0 t)) (le-leb n width c.if-lines-gt-WIDTH.false)
-    ∙ ap (λ (b : Bool). b && completes n 0 t) (eq-eqb (length t) n c.if-table-lines.false))
+    ∙ ap (λ (b : Bool). b && completes n 0 t) (eq-eqb (length t) n (c.if-table-from.false ∙ c.from.ensures)))

@@ -1,6 +1,6 @@
 use Rattle.std.proofs.Common.{◌∙◌, refl, sym}
 use Rattle.std.proofs.lemmas.List.{get_or-take}
-use Rattle.fixed_list.proofs.Shifts.{changed_in}
+use Rattle.std.proofs.Math.Seq.{take-set-lt}
 use Rattle.fixed_list.proofs.fixed_list.FixedList.change.Goals as goal
 
 pub returns-then-place-self-clause-there : goal.returns-then-place-self-clause-there
@@ -12,5 +12,5 @@ returns-then-place-self-clause-there g c there =
       item' = c.change.new.arg2;
       was = get_or-take s.count s.items c.args.place x c.if-place-self.true ∙ sym c.index-self-place.is;
       turned = record { shown = _; shows = sym c.index-self-place.is; left = _; met = c.change.ensures; leaves = refl };
-      is = changed_in s.count s.items c.args.place c.change.new.arg2;
+      is = take-set-lt s.count s.items c.args.place c.change.new.arg2 c.if-place-self.true;
     }

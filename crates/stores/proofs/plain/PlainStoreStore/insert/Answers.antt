@@ -4,7 +4,7 @@ use Rattle.gates.specs.declared.gate.Gate.{Gate}
 use Rattle.stores.specs.Held.{plain_held}
 use Rattle.stores.specs.Memory.{in_memory}
 use Rattle.stores.specs.Stores.{after}
-use Rattle.stores.proofs.Outcomes.{place_before_told, gate_told, insert_ok}
+use Rattle.stores.proofs.Outcomes.{place_before_told, room_told, gate_told, insert_ok}
 use Rattle.stores.proofs.PlainEdits.{front_inserted, behind_inserted}
 use Rattle.stores.proofs.plain.PlainStoreStore.insert.Goals as goal
 
@@ -17,11 +17,12 @@ returns-clause-leaves g c =
     let p = c.args.place in
     let y = c.args.gate in
     let le : p ≤ n = place_before_told p n c.in_ok-check_place_before.ensures in
-    let room : n < length xs = omega (arith, c.if-count-capacity.false, c.capacity.ensures) in
+    let told = room_told n c.capacity.result c.in_ok-check_room.ensures in
+    let room : n < length xs = omega (arith, told, c.capacity.ensures) in
     let few = length-take-le n xs s.within in
     let ok =
     insert_ok k (plain_held s) p y (gate_told k s.lines y c.in_ok-check_gate.ensures)
-    (omega (arith, le, few)) (omega (arith, few, c.if-count-capacity.false, c.capacity.ensures)) in
+    (omega (arith, le, few)) (omega (arith, few, told, c.capacity.ensures)) in
     ap₂ (λ (z : ℕ) (r : List Gate). in_memory s.lines z r)
     (length-set c.copy_within.new.self p y ∙ c.copy_within.ensures.len)
     (ap (λ (r : List Gate). take (n + 1) (set r p y)) c.copy_within.ensures.after ∙ front_inserted xs n p y room le)
@@ -34,6 +35,6 @@ returns-clause-behind g c =
     let n = s.count in
     let p = c.args.place in
     let y = c.args.gate in
-    let room : n < length xs = omega (arith, c.if-count-capacity.false, c.capacity.ensures) in
+    let room : n < length xs = omega (arith, room_told n c.capacity.result c.in_ok-check_room.ensures, c.capacity.ensures) in
     ap (λ (r : List Gate). drop (n + 1) (set r p y)) c.copy_within.ensures.after
     ∙ behind_inserted xs n p y room (place_before_told p n c.in_ok-check_place_before.ensures)

@@ -5,7 +5,7 @@ use Rattle.gates.specs.Kinds.{Formed}
 use Rattle.stores.specs.Stores.{with_gates}
 use Rattle.stores.specs.Mounts.{shown_gate, renamed_view}
 use Rattle.stores.proofs.Rearranging.{written_back, inserted_map}
-use Rattle.stores.proofs.Outcomes.{place_before_told, gate_told, insert_through}
+use Rattle.stores.proofs.Outcomes.{place_before_told, formed_told, insert_through}
 use Rattle.stores.proofs.renamed.RenamedStore.insert.Goals as goal
 
 pub returns : goal.returns
@@ -21,7 +21,7 @@ returns g c =
     let laws = g.met.S.Kind.GateKind.lawful in
     let y = c.args.gate in
     let z = c.through-written.result in
-    let formed : Formed k m.lines y = ap (λ (l : ℕ). k.form l y) (sym c.lines.ensures) ∙ gate_told k c.lines.result y c.in_ok-check_gate.ensures in
+    let formed = formed_told k c.lines.result m.lines y c.lines.ensures c.in_ok-check_gate.ensures in
     let back = written_back laws new (contents s.table.old) s.table.sound s.table.inverse m.lines y formed in
     let is = c.through-written.ensures ∙ ap (λ (t : List ℕ). shown_gate k t m.lines y) c.old_lines.ensures in
     let below-formed : Formed k m.lines z = subst (Formed k m.lines) (sym is) back.0 in

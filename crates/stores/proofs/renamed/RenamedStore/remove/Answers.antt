@@ -1,10 +1,10 @@
-use Rattle.std.proofs.Common.{◌<◌, length, ap, ◌∙◌, arith}
+use Rattle.std.proofs.Common.{ltb, ap, ◌∙◌}
 use lib.ListN.{length-map}
 use Rattle.fixed_list.specs.Lists.{contents}
 use Rattle.stores.specs.Stores.{with_gates}
 use Rattle.stores.specs.Mounts.{shown_gate, renamed_view}
 use Rattle.stores.proofs.Rearranging.{removed_map}
-use Rattle.stores.proofs.Outcomes.{place_told, remove_through}
+use Rattle.stores.proofs.Outcomes.{remove_seen}
 use Rattle.stores.proofs.renamed.RenamedStore.remove.Goals as goal
 
 pub returns-clause-leaves : goal.returns-clause-leaves
@@ -16,6 +16,4 @@ returns-clause-leaves g c =
     let V = renamed_view k new in
     let f = shown_gate k new m.lines in
     let p = c.args.place in
-    let long = length-map m.gates f in
-    let lt : p < length m.gates = omega (arith, place_told p c.count.result c.in_ok-check_place.ensures, c.count.ensures) in
-    ap V c.in_ok-gate.ensures.leaves ∙ remove_through k V m p p (omega (arith, lt, long)) lt (ap (with_gates m) (removed_map f m.gates p))
+    ap V c.in_ok-gate.ensures.leaves ∙ remove_seen k V m p p (ap (ltb p) (length-map m.gates f)) (ap (with_gates m) (removed_map f m.gates p))

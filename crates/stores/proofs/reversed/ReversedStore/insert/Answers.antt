@@ -4,7 +4,7 @@ use Rattle.stores.specs.Stores.{insert_outcome, after, with_gates}
 use Rattle.stores.specs.Mounts.{reversed}
 use Rattle.stores.specs.MountFacts.{backward_long}
 use Rattle.stores.proofs.Backward.{inserted_backward}
-use Rattle.stores.proofs.Outcomes.{place_before_told, gate_told, insert_through}
+use Rattle.stores.proofs.Outcomes.{place_before_told, formed_told, insert_through}
 use Rattle.stores.proofs.reversed.ReversedStore.insert.Goals as goal
 
 pub returns-clause-leaves : goal.returns-clause-leaves
@@ -16,7 +16,7 @@ returns-clause-leaves g c =
     let long = backward_long k m.gates in
     let y = c.args.gate in
     let z = c.inverse.result in
-    let formed : Formed k m.lines y = ap (λ (l : ℕ). k.form l y) (sym c.lines.ensures) ∙ gate_told k c.lines.result y c.in_ok-check_gate.ensures in
+    let formed = formed_told k c.lines.result m.lines y c.lines.ensures c.in_ok-check_gate.ensures in
     let below-formed : Formed k m.lines z = subst (Formed k m.lines) (sym c.inverse.ensures) (laws.inverse_formed m.lines y formed) in
     let twice : k.inverse z ≡ y = ap k.inverse c.inverse.ensures ∙ laws.inverse_twice m.lines y formed in
     let le : p ≤ length m.gates = omega (arith, place_before_told p c.count-count.result c.in_ok-check_place_before.ensures, c.count-count.ensures) in
