@@ -19,8 +19,7 @@ use gates::{Gate, GateKind};
 
 // The template turned, each gate with its position.
 fn turn_template<K: GateKind>(template: &Template, named: &Named) -> Posed
-    ensures { named.now.rotation ≤ length (template_of template.now).gates
-        → placed_of (contents result) ≡ turned K.means (occurrence_of named.now).turn (placed (template_of template.now).gates) }
+    ensures { placed_of (contents result) ≡ turned K.means (occurrence_of named.now).turn (placed (template_of template.now).gates) }
 {
     let table = named.table.as_slice();
     let posed = pose::<K>(template, named.back, named.rotation, named.flips);
@@ -98,7 +97,6 @@ pub(crate) fn extend<K: GateKind>(
     named: &Named,
 ) -> Result<Posed, NoGroup>
     ensures { (gates : List GateMeaning) → chosen.now ≡ at_places gates (places (occurrence_of named.now))
-        → named.now.rotation ≤ length (template_of template.now).gates
         → posed_of result ≡ turned_by K.means (template_of template.now) (occurrence_of named.now)
         (additions K.means lines gates (template_of template.now) (occurrence_of named.now)) }
 {
