@@ -4,7 +4,7 @@ ghost use Rattle.gates.specs.declared.gate.Sign.{Sign as SignMeaning};
 ghost use Rattle.workspace.specs.Extensions.{answer_of, found_as, signed};
 ghost use Rattle.workspace.specs.Occurrences.{asks, fits_group, lowest, some_has_lem};
 ghost use Rattle.workspace.specs.Posing.{placed_of};
-ghost use Rattle.workspace.specs.Turns.{member};
+ghost use Rattle.workspace.specs.Turns.{in_listed, member};
 
 use super::posed::Member;
 use super::{PositionSet, positions};
@@ -22,15 +22,22 @@ pub(crate) struct Addition {
 #[derive(Clone, Copy)]
 pub(crate) struct NoGroup {}
 
+// Whether the position is in the group at that place of the list.
+fn is_listed(groups: &[PositionSet], place: usize, position: usize) -> bool
+    ensures { result ≡ in_listed groups.now place position }
+{
+    groups
+        .get(place)
+        .is_some_and(|group| positions::has_position(*group, position))
+}
+
 // Whether the position is in the group of that number: group 0 is the whole template, the listed groups count from 1.
 pub(crate) fn is_member(groups: &[PositionSet], number: usize, position: usize) -> bool
     ensures { result ≡ member groups.now number position }
 {
-    if number == 0 {
-        return true;
-    }
-    let listed = groups.get(number - 1);
-    listed.is_some_and(|group| positions::has_position(*group, position))
+    number
+        .checked_sub(1)
+        .is_none_or(|place| is_listed(groups, place, position))
 }
 
 // Whether the line is a control of this sign.
@@ -79,15 +86,14 @@ pub(crate) fn ask(
     if table.contains(&line) {
         return Ok(None);
     }
-    let plus = some_has(chosen, Sign::Positive, line);
-    let minus = some_has(chosen, Sign::Negative, line);
-    if plus && minus {
-        return Err(NoGroup {});
-    }
-    if !plus && !minus {
-        return Ok(None);
-    }
-    let sign = if plus { Sign::Positive } else { Sign::Negative };
+    let is_positive = some_has(chosen, Sign::Positive, line);
+    let is_negative = some_has(chosen, Sign::Negative, line);
+    let sign = match (is_positive, is_negative) {
+        (true, true) => return Err(NoGroup {}),
+        (true, false) => Sign::Positive,
+        (false, true) => Sign::Negative,
+        (false, false) => return Ok(None),
+    };
     let group = find_group(groups, chosen, line).ok_or(NoGroup {})?;
     Ok(Some(Addition { line, sign, group }))
 }
