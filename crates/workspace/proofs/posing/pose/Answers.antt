@@ -15,7 +15,7 @@ loop-position-preserved g c =
     let i = c.loop-position.position in
     let members = c.loop-position.members in
     let gates = c.gates-gates.result.now in
-    let sized : c.size-size.result ≡ length gates = c.size-size.ensures.is ∙ sym (ap length c.gates-gates.ensures) in
+    let sized : c.size-size.result ≡ length gates = c.size-size.ensures.is ∙ sym (ap length c.gates-gates.ensures.is) in
     record {
       long = length-set members i _ ∙ c.loop-position.invariant.long;
       front = each_more g.K.GateKind.means gates c.args.back c.args.flips members i c.pose_gate-gate.result (omega (arith, c.loop-position.invariant.long, c.loop-position-test.true, c.size-size.ensures.few)) c.loop-position-test.true c.pose_gate-gate.ensures c.loop-position.invariant.front;
@@ -29,7 +29,7 @@ returns g c =
     let r = c.args.rotation in
     let flips = c.args.flips in
     let size = c.size-size.result in
-    let sized : size ≡ length gates = c.size-size.ensures.is ∙ sym (ap length c.gates-gates.ensures) in
+    let sized : size ≡ length gates = c.size-size.ensures.is ∙ sym (ap length c.gates-gates.ensures.is) in
     let members = take size c.loop-position.members in
     let long : length members ≡ size = omega (arith, length-take size c.loop-position.members, c.loop-position.invariant.long, c.size-size.ensures.few) in
     let at-end : c.loop-position.position ≡ size = omega (arith, c.loop-position-test.false, c.loop-position.auto.position-end) in
@@ -46,4 +46,4 @@ returns g c =
     let turned : c.rotate_left.new.self ≡ rotated r (in_order back members) = c.rotate_left.ensures.after ∙ ap₂ (λ (m : ℕ) (xs : List Member). rotated m xs) same ordered ∙ rotated_least r (in_order back members) in
     ap placed_of (whole ∙ take_all 8 c.rotate_left.new.self (omega (arith, c.rotate_left.ensures.len, c.if-back.auto.counted, long, c.size-size.ensures.few)) ∙ turned)
     ∙ posed_is k gates back r flips members each
-    ∙ ap (λ (gs : List Gate). map (on_gate (flipped_or k flips)) (rotated r (directed k back (placed gs)))) c.gates-gates.ensures
+    ∙ ap (λ (gs : List Gate). map (on_gate (flipped_or k flips)) (rotated r (directed k back (placed gs)))) c.gates-gates.ensures.is
