@@ -36,6 +36,7 @@ fn turn_template<K: GateKind>(template: &Template, named: &Named) -> Posed
 fn stand_beside(turned: &Posed, gates: &[Gate]) -> Posed
     ensures { placed_of (contents result) ≡ beside (placed_of (contents turned.now)) gates.now }
 {
+    // Filled item by item: a list takes no iterator, which would have to be asked whether it ends.
     let mut standing = FixedList::new(Member::BLANK);
     for (member, gate) in turned.as_slice().iter().zip(gates) {
         let _ = standing.push(Member {

@@ -38,6 +38,7 @@ pub(crate) fn pose<K: GateKind>(
 {
     let gates = template.gates();
     let size = template.size();
+    // Turned round in an array, since a list lends its items for reading only.
     let mut members = [Member::BLANK; MOST_GATES];
     for (position, gate) in gates.iter().enumerate() {
         let gate = pose_gate::<K>(*gate, back, flips);

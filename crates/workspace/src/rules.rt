@@ -27,6 +27,7 @@ pub(super) fn are_gates_few(proposal: &Proposal) -> bool
 pub(super) fn check_gates<K: GateKind>(proposal: &Proposal) -> Result<(), GateRefusal>
     ensures { result ≡ if gates_test K.means (proposed proposal.now) then Ok tt else Err GateRefusal.NotWellFormed }
 {
+    // A loop: `try_for_each` leaves its result open to the proof.
     for gate in proposal.gates {
         check_gate::<K>(*gate, proposal.lines)?;
     }
