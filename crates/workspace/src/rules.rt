@@ -66,7 +66,6 @@ pub(super) fn does_whole_restore<K: GateKind>(template: &Template) -> bool
 pub(super) fn do_selections_restore<K: GateKind>(template: &Template) -> bool
     ensures { result ≡ selections_test K.means (template_of template.now) }
 {
-    (0..1u32 << template.groups().len()).all(|selection| does_part_restore::<K>(
-        template, selection,
-    ))
+    let selections = 1u32 << template.groups().len();
+    (0..selections).all(|selection| does_part_restore::<K>(template, selection))
 }
