@@ -9,7 +9,7 @@ ghost use Rattle.workspace.specs.Posing.{placed_of};
 ghost use Rattle.workspace.specs.Proposals.{template_of};
 ghost use Rattle.workspace.specs.Turns.{at_position, placed, turned};
 
-use super::asking::{Addition, NoGroup, ask, is_member};
+use super::asking::{Addition, Asking, NoGroup, is_member};
 use super::named::Named;
 use super::posed::{Member, Posed};
 use super::posing::pose;
@@ -71,20 +71,14 @@ fn control_group<K: GateKind>(posed: &Posed, groups: &[PositionSet], addition: A
 }
 
 // The turned gates with the controls that the lines ask for; refused where a line asks for what no group can give.
-fn add_controls<K: GateKind>(
-    turned: &Posed,
-    chosen: &[Member],
-    lines: u8,
-    table: &[u8],
-    groups: &[PositionSet],
-) -> Result<Posed, NoGroup>
+fn add_controls<K: GateKind>(turned: &Posed, asking: &Asking, lines: u8) -> Result<Posed, NoGroup>
     ensures { posed_of result
-        ≡ extended_by K.means groups.now (placed_of (contents turned.now)) (gathered (asks table.now groups.now (placed_of chosen.now)) lines) }
+        ≡ extended_by K.means asking.now.groups.now (placed_of (contents turned.now)) (gathered (asks asking.now.table.now asking.now.groups.now (placed_of asking.now.chosen.now)) lines) }
 {
     let mut extended = *turned;
     for line in 0..lines {
-        if let Some(addition) = ask(table, groups, chosen, line)? {
-            extended = control_group::<K>(&extended, groups, addition);
+        if let Some(addition) = asking.ask(line)? {
+            extended = control_group::<K>(&extended, asking.groups, addition);
         }
     }
     Ok(extended)
@@ -103,11 +97,10 @@ pub(crate) fn extend<K: GateKind>(
 {
     let turned = turn_template::<K>(template, named);
     let standing = stand_beside(&turned, chosen);
-    add_controls::<K>(
-        &turned,
-        standing.as_slice(),
-        lines,
-        named.table.as_slice(),
-        template.groups(),
-    )
+    let asking = Asking {
+        table: named.table.as_slice(),
+        groups: template.groups(),
+        chosen: standing.as_slice(),
+    };
+    add_controls::<K>(&turned, &asking, lines)
 }
