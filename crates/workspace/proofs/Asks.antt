@@ -3,7 +3,7 @@ use Rattle.std.proofs.Common.{◌≡◌, ℕ, zero, suc, ◌+◌, ◌-◌, ◌<�
 use mathlib.Core.Bool.{beq}
 use denote.Ref.{Bor}
 use Rattle.std.specs.List.{list_any, list_all, find, range_with_len}
-use Rattle.std.specs.Option.{MatchOption}
+use Rattle.std.specs.Option.{MatchOption, SomeIff}
 use Rattle.std.specs.Slice.{IsItemAt}
 use Rattle.gates.specs.Controls.{reads}
 use Rattle.gates.specs.declared.gate.Sign.{Sign}
@@ -27,14 +27,19 @@ listed_past [] i p le = refl
 listed_past (g ∷ groups) zero p le = absurd (let z : ⊥ = omega arith in z)
 listed_past (g ∷ groups) (suc i) p le = listed_past groups i p (omega arith)
 
--- the position is in the group of a number from 1 on where it is in the listed one that is found
-pub member_is : (groups : List ℕ) (n p : ℕ) (r : Option (Bor ℕ)) (b : Bool) (Q : Bor ℕ → Type 0) → (n ≡ 0 → ⊥) → IsItemAt groups (n - 1) r → ((x : Bor ℕ) → Q x → b ≡ bit x.now p) → MatchOption r (b ≡ false) Q
+-- the position is in the listed group that is found
+pub listed_is : (groups : List ℕ) (i p : ℕ) (r : Option (Bor ℕ)) (b : Bool) (Q : Bor ℕ → Type 0) → IsItemAt groups i r → ((x : Bor ℕ) → Q x → b ≡ bit x.now p) → MatchOption r (b ≡ false) Q
+    → b ≡ in_listed groups i p
+listed_is groups i p None b Q at each is = is ∙ listed_past groups i p at.3
+listed_is groups i p (Some x) b Q at each is = each x is ∙ ap (λ (g : ℕ). bit g p) (at.4 (omega arith) 0) ∙ listed_at groups i p at.3.0
+
+-- the position is in the group of a number where it is in the listed one before, if there is one
+pub member_is : (groups : List ℕ) (n p : ℕ) (r : Option ℕ) (b : Bool) (Q : ℕ → Type 0) → SomeIff r (1 ≤ n) (n - 1) → ((i : ℕ) → Q i → b ≡ in_listed groups i p) → MatchOption r (b ≡ true) Q
     → b ≡ member groups n p
-member_is groups n p None b Q some at each is =
-    let next : suc (n - 1) ≡ n = omega arith in is ∙ listed_past groups (n - 1) p at.3 ∙ ap (λ (m : ℕ). member groups m p) next
-member_is groups n p (Some x) b Q some at each is =
-    let next : suc (n - 1) ≡ n = omega arith in
-    each x is ∙ ap (λ (g : ℕ). bit g p) (at.4 (omega arith) 0) ∙ listed_at groups (n - 1) p at.3.0 ∙ ap (λ (m : ℕ). member groups m p) next
+member_is groups zero p None b Q less each is = is
+member_is groups (suc n) p None b Q less each is = absurd (less (omega arith))
+member_is groups zero p (Some i) b Q less each is = absurd (let z : ⊥ = omega (arith, less.0) in z)
+member_is groups (suc n) p (Some i) b Q less each is = each i is ∙ ap (λ (j : ℕ). in_listed groups j p) (let e : i ≡ n = omega (arith, less.1) in e)
 
 -- some gate of a list has the control
 pub some_is : (sign : Sign) (l : ℕ) (ms : List Member) → list_any (λ (m : Member). signed sign m.gate l) ms ≡ some_has_lem sign (placed_of ms) l

@@ -1,7 +1,8 @@
 -- The test of a turn, step by step.
-use Rattle.std.proofs.Common.{◌≡◌, ℕ, suc, ◌+◌, ◌-◌, ◌<◌, Bool, true, false, not, ◌&&◌, List, [], ◌∷◌, ◌++◌, map, reverse, length, get_or, take, drop, sym, refl, ap, ◌∙◌}
+use Rattle.std.proofs.Common.{◌≡◌, ℕ, zero, suc, ◌+◌, ◌-◌, Bool, true, false, not, ◌&&◌, List, [], ◌∷◌, ◌++◌, map, reverse, length, get_or, take, drop, sym, refl, ap, ◌∙◌, ap₂, arith}
 use mathlib.Core.List.{reverse-cons}
-use Rattle.std.proofs.lemmas.List.{at_drop_more, take_rest}
+use Rattle.std.proofs.lemmas.List.{at_drop_all, at_drop_more, take_rest}
+use Rattle.std.specs.List.{list_all, enumerate_from}
 use Rattle.gates.specs.declared.gate.Gate.{Gate}
 use Rattle.gates.specs.Kinds.{KindMeaning}
 use Rattle.workspace.specs.TemplateTests.{all_pass}
@@ -45,10 +46,18 @@ pass_directed k test true gates =
     ∙ pass_reverse (λ (x : Placed). test (k.inverse x.gate)) (placed gates)
     ∙ pass_placed (λ g. test (k.inverse g)) 0 gates)
 
--- no line twice, from a place on
-module _ (table : List ℕ) (i : ℕ) (lt : i < length table) where
-  rest_is : has_number_lem (take (length table - (i + 1)) (drop (i + 1) table)) (get_or table i 0) ≡ has_number_lem (drop (i + 1) table) (get_or table i 0)
-  rest_is = ap (λ (xs : List ℕ). has_number_lem xs (get_or table i 0)) (take_rest table (i + 1))
+-- each line is looked for behind its place
+module _ (table : List ℕ) where
+  abbrev pub stands_once : ℕ × ℕ → Bool
+  stands_once x = not (has_number_lem (take (length table - (x.0 + 1)) (drop (x.0 + 1) table)) x.1)
 
-  pub distinct_fails : true ≡ has_number_lem (take (length table - (i + 1)) (drop (i + 1) table)) (get_or table i 0) → false ≡ distinct (drop i table)
-  distinct_fails e = ap (λ (b : Bool). not b && distinct (drop (i + 1) table)) (e ∙ rest_is) ∙ sym (at_drop_more distinct table i 0 lt)
+  once_from : (n d : ℕ) → d + n ≡ length table → list_all stands_once (enumerate_from d (drop d table)) ≡ distinct (drop d table)
+  once_from zero d e =
+      at_drop_all (λ (xs : List ℕ). list_all stands_once (enumerate_from d xs)) table d (omega arith) ∙ sym (at_drop_all distinct table d (omega arith))
+  once_from (suc n) d e =
+      at_drop_more (λ (xs : List ℕ). list_all stands_once (enumerate_from d xs)) table d 0 (omega arith)
+      ∙ ap₂ (λ (xs : List ℕ) (b : Bool). not (has_number_lem xs (get_or table d 0)) && b) (take_rest table (d + 1)) (once_from n (d + 1) (omega arith))
+      ∙ sym (at_drop_more distinct table d 0 (omega arith))
+
+  pub distinct_is : list_all stands_once (enumerate_from 0 table) ≡ distinct table
+  distinct_is = once_from (length table) 0 (omega arith)

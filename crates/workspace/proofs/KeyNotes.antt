@@ -105,15 +105,13 @@ module _ (k : KindMeaning) (c : Condition) (sound : Sound k c) (key prefix : Lis
 
   -- a template that was just posed
   pub posed_fits : (note : Note) (back : Bool) (rotation flips : ℕ) (t : TemplateMeaning) → length key ≡ 6 → t ≡ e → back ≡ eqb (get_or key 3 0) 1 → rotation ≡ get_or key 4 0 → flips ≡ get_or key 5 0
-      → (rotation ≤ size t → members_in note.images ≡ posed k t back rotation flips) → map (λ (m : Image). m.reached) (contents note.images) ≡ take (length (contents note.images)) open_reach
+      → members_in note.images ≡ posed k t back rotation flips → map (λ (m : Image). m.reached) (contents note.images) ≡ take (length (contents note.images)) open_reach
       → note.chosen ≡ 1 → NoteFits k e key note o
   posed_fits note back rotation flips t six same b-is r-is f-is poses reaches chooses =
-      let turn = b.rules.turn in
       let b_at : back ≡ o.turn.back = b-is ∙ ap (λ (x : ℕ). eqb x 1) (number_at k c key o b 3 (omega arith)) ∙ direction o.turn.back in
       let r-at : rotation ≡ o.turn.rotation = r-is ∙ number_at k c key o b 4 (omega arith) in
       let f-at : flips ≡ o.turn.flips = f-is ∙ number_at k c key o b 5 (omega arith) in
-      let long : size t ≡ size e = ap (λ (x : TemplateMeaning). size x) same in
-      let is : members_in note.images ≡ pose k c.shelf o = poses (omega (arith, turn.rotates, r-at, long)) ∙ (λ i. posed k (same i) (b_at i) (r-at i) (f-at i)) in
+      let is : members_in note.images ≡ pose k c.shelf o = poses ∙ (λ i. posed k (same i) (b_at i) (r-at i) (f-at i)) in
       record {
         posed_so = is;
         reached_so = λ j l.

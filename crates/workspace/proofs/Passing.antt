@@ -1,8 +1,8 @@
 -- Chosen gates that move to the front, gate by gate.
-use Rattle.std.proofs.Common.{◌≡◌, ℕ, suc, ◌+◌, ◌<◌, Bool, true, false, cond, not, ◌&&◌, ◌||◌, List, [], ◌∷◌, ◌++◌, length, get_or, take, drop, sym, refl, ap, ◌∙◌, ap₂, arith}
+use Rattle.std.proofs.Common.{◌≡◌, ℕ, zero, suc, ◌+◌, ◌<◌, Bool, true, false, cond, not, ◌&&◌, ◌||◌, List, [], ◌∷◌, ◌++◌, length, get_or, take, drop, sym, refl, ap, ◌∙◌, ap₂, arith}
 use mathlib.Core.Path.{fun_ext}
 use Rattle.std.specs.List.{list_all, enumerate_from}
-use Rattle.std.proofs.lemmas.List.{length-take, take_more, at_drop_more}
+use Rattle.std.proofs.lemmas.List.{length-take, take_more, at_drop_all, at_drop_more}
 use Rattle.gates.specs.declared.gate.Gate.{Gate}
 use Rattle.gates.specs.Kinds.{KindMeaning}
 use Rattle.gates.specs.Cascades.{picked}
@@ -42,10 +42,10 @@ picked_push c (x ∷ xs) g =
 
 module _ (k : KindMeaning) (c : ℕ → Bool) (gates : List Gate) where
   -- what is left to move from place d on
-  abbrev pub left : ℕ → Bool
+  abbrev left : ℕ → Bool
   left d = moves_front k (λ i. c (d + i)) (unchosen c (take d gates)) (drop d gates)
 
-  pub left_none : left 0 ≡ moves_front k c [] gates
+  left_none : left 0 ≡ moves_front k c [] gates
   left_none = ap (λ (e : ℕ → Bool). moves_front k e [] gates) (from_start c)
 
   unchosen_more : (d : ℕ) → d < length gates → unchosen c (take (d + 1) gates) ≡ cond (not (c d)) (unchosen c (take d gates) ++ get_or gates d no_gate ∷ []) (unchosen c (take d gates))
@@ -71,11 +71,21 @@ module _ (k : KindMeaning) (c : ℕ → Bool) (gates : List Gate) where
       at true before = refl
       at false before = refl
 
-  pub left_more : (d : ℕ) → d < length gates → true ≡ (not (c d) || passes k (unchosen c (take d gates)) (get_or gates d no_gate)) → left (d + 1) ≡ left d
-  left_more d lt is = ap (λ (b : Bool). b && left (d + 1)) is ∙ sym (left_next d lt)
+  -- each gate is tried at its distance
+  abbrev pub moves_at : ℕ × Gate → Bool
+  moves_at x = not (c x.0) || passes k (unchosen c (take x.0 gates)) x.1
 
-  pub left_fails : (d : ℕ) → d < length gates → false ≡ (not (c d) || passes k (unchosen c (take d gates)) (get_or gates d no_gate)) → false ≡ left d
-  left_fails d lt is = ap (λ (b : Bool). b && left (d + 1)) is ∙ sym (left_next d lt)
+  left_all : (n d : ℕ) → d + n ≡ length gates → list_all moves_at (enumerate_from d (drop d gates)) ≡ left d
+  left_all zero d e =
+      at_drop_all (λ (xs : List Gate). list_all moves_at (enumerate_from d xs)) gates d (omega arith)
+      ∙ sym (at_drop_all (moves_front k (λ i. c (d + i)) (unchosen c (take d gates))) gates d (omega arith))
+  left_all (suc n) d e =
+      at_drop_more (λ (xs : List Gate). list_all moves_at (enumerate_from d xs)) gates d no_gate (omega arith)
+      ∙ ap (λ (b : Bool). moves_at (d, get_or gates d no_gate) && b) (left_all n (d + 1) (omega arith))
+      ∙ sym (left_next d (omega arith))
+
+  pub moves_are : list_all moves_at (enumerate_from 0 gates) ≡ moves_front k c [] gates
+  moves_are = left_all (length gates) 0 (omega arith) ∙ left_none
 
 -- places count only as far as there are gates
 pub moves_same : (k : KindMeaning) (c d : ℕ → Bool) (passed gates : List Gate) → ((i : ℕ) → i < length gates → c i ≡ d i) → moves_front k c passed gates ≡ moves_front k d passed gates

@@ -1,5 +1,5 @@
 -- A key that occurs leads to a plan of its occurrence.
-use Rattle.std.proofs.Common.{◌≡◌, ℕ, ◌≤◌, Bool, cond, List, ◌∷◌, get_or, Some, None, Ok, Err, Option, Result, sym, refl, ap, ◌∙◌, subst, ap₂, arith}
+use Rattle.std.proofs.Common.{◌≡◌, ℕ, Bool, cond, List, ◌∷◌, get_or, Some, None, Ok, Err, Option, Result, sym, refl, ap, ◌∙◌, subst, ap₂, arith}
 use Rattle.std.specs.Result.{result_ok}
 use Rattle.fixed_list.specs.declared.fixed_list.FixedList.{FixedList}
 use Rattle.fixed_list.specs.Lists.{contents}
@@ -8,7 +8,7 @@ use Rattle.gates.specs.Kinds.{KindMeaning}
 use Rattle.workspace.specs.declared.named.Named.{Named}
 use Rattle.workspace.specs.declared.asking.NoGroup.{NoGroup}
 use Rattle.workspace.specs.declared.posed.Member.{Member}
-use Rattle.workspace.specs.Templates.{TemplateMeaning, size}
+use Rattle.workspace.specs.Templates.{TemplateMeaning}
 use Rattle.workspace.specs.Turns.{Placed, turned_template}
 use Rattle.workspace.specs.Conditions.{Condition, Sound, no_entry}
 use Rattle.workspace.specs.Extensions.{posed_of, turned_by}
@@ -55,9 +55,6 @@ module _ (k : KindMeaning) (c : Condition) (key : List ℕ) (sound : Sound k c) 
     of_read : e ≡ template_on c.shelf (occurrence_of named)
     of_read = template ∙ ap (template_on c.shelf) (sym same)
 
-    rotates : named.rotation ≤ size e
-    rotates = subst (λ (t : TemplateMeaning). named.rotation ≤ size t) (sym of_read) (omega (arith, rules.turn.rotates))
-
     extends : turned_by k e (occurrence_of named) (additions k c.store.lines c.store.gates e (occurrence_of named))
         ≡ Some (turned_template k (template_on c.shelf (occurrence_of named)) (occurrence_of named).turn rules.adds)
     extends =
@@ -67,11 +64,11 @@ module _ (k : KindMeaning) (c : Condition) (key : List ℕ) (sound : Sound k c) 
     -- what extends the template for the gates of the frame is an extension, and the plan's
     module _ (frame : List Gate) (framed : frame ≡ frame_at c.store.gates named.first) (chosen : List Gate) (held : chosen ≡ at_places frame (0 ∷ contents named.later))
         (n : ℕ) (wide : n ≡ c.store.lines) (r : Result (FixedList Member 8) NoGroup)
-        (extending : (gates : List Gate) → chosen ≡ at_places gates (places (occurrence_of named)) → named.rotation ≤ size e
+        (extending : (gates : List Gate) → chosen ≡ at_places gates (places (occurrence_of named))
         → posed_of r ≡ turned_by k e (occurrence_of named) (additions k n gates e (occurrence_of named))) where
       made : posed_of r ≡ Some (turned_template k (template_on c.shelf (occurrence_of named)) (occurrence_of named).turn rules.adds)
       made =
-          extending c.store.gates (held ∙ frame_places c.store.gates frame named.first (contents named.later) framed rules.near) rotates
+          extending c.store.gates (held ∙ frame_places c.store.gates frame named.first (contents named.later) framed rules.near)
           ∙ ap (λ (m : ℕ). turned_by k e (occurrence_of named) (additions k m c.store.gates e (occurrence_of named))) wide
           ∙ extends
 

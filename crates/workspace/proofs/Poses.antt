@@ -1,7 +1,7 @@
 -- A template posed: each gate is turned, and then their order.
-use Rattle.std.proofs.Common.{◌≡◌, ℕ, zero, suc, ◌+◌, ◌<◌, Bool, true, false, List, [], ◌∷◌, ◌++◌, map, reverse, length, get_or, take, drop, set, sym, refl, ap, ◌∙◌, ap₂, arith}
+use Rattle.std.proofs.Common.{◌≡◌, ℕ, zero, suc, ◌+◌, ◌<◌, min, Bool, true, false, List, [], ◌∷◌, ◌++◌, map, reverse, length, get_or, take, drop, set, sym, refl, ap, ◌∙◌, ap₂, arith}
 use Rattle.std.specs.List.{drop-map, take-map}
-use Rattle.std.proofs.lemmas.List.{map-append, map_push, length-map, get_or-map, take_more, take_more_set}
+use Rattle.std.proofs.lemmas.List.{map-append, map_push, length-map, length-reverse, get_or-map, take_more, take_more_set}
 use Rattle.std.proofs.lemmas.Simd.{map-map}
 use mathlib.Core.List.{reverse-cons}
 use Rattle.gates.specs.declared.gate.Gate.{Gate}
@@ -35,6 +35,20 @@ placed_at p (suc i) (g ∷ gates) lt = placed_at (suc p) i gates (omega arith) �
 map_rotated : {X Y : Type 0} (h : X → Y) (r : ℕ) (xs : List X) → map h (rotated r xs) ≡ rotated r (map h xs)
 map_rotated h r xs = map-append h (drop r xs) (take r xs) ∙ ap₂ ◌++◌ (sym (drop-map h r xs)) (sym (take-map h r xs))
 
+-- a rotation by more than the length is none, as one by the length is
+drop_least : {X : Type 0} (r : ℕ) (xs : List X) → drop (min r (length xs)) xs ≡ drop r xs
+drop_least zero xs = ap (λ (m : ℕ). drop m xs) (let e : min 0 (length xs) ≡ 0 = omega arith in e)
+drop_least (suc r) [] = ap (λ (m : ℕ). drop m []) (let e : min (suc r) 0 ≡ 0 = omega arith in e)
+drop_least (suc r) (x ∷ xs) = ap (λ (m : ℕ). drop m (x ∷ xs)) (let e : min (suc r) (suc (length xs)) ≡ suc (min r (length xs)) = omega arith in e) ∙ drop_least r xs
+
+take_least : {X : Type 0} (r : ℕ) (xs : List X) → take (min r (length xs)) xs ≡ take r xs
+take_least zero xs = ap (λ (m : ℕ). take m xs) (let e : min 0 (length xs) ≡ 0 = omega arith in e)
+take_least (suc r) [] = ap (λ (m : ℕ). take m []) (let e : min (suc r) 0 ≡ 0 = omega arith in e)
+take_least (suc r) (x ∷ xs) = ap (λ (m : ℕ). take m (x ∷ xs)) (let e : min (suc r) (suc (length xs)) ≡ suc (min r (length xs)) = omega arith in e) ∙ ap (◌∷◌ x) (take_least r xs)
+
+pub rotated_least : {X : Type 0} (r : ℕ) (xs : List X) → rotated (min r (length xs)) xs ≡ rotated r xs
+rotated_least r xs = ap₂ ◌++◌ (drop_least r xs) (take_least r xs)
+
 map-reverse : {X Y : Type 0} (h : X → Y) (xs : List X) → map h (reverse xs) ≡ reverse (map h xs)
 map-reverse h [] = refl
 map-reverse h (x ∷ xs) =
@@ -65,6 +79,10 @@ module _ (k : KindMeaning) (gates : List Gate) (back : Bool) (flips : ℕ) where
 abbrev pub in_order : Bool → List Member → List Member
 in_order true members = reverse members
 in_order false members = members
+
+pub in_order_long : (back : Bool) (members : List Member) → length (in_order back members) ≡ length members
+in_order_long true members = length-reverse members
+in_order_long false members = refl
 
 -- and rotated, they are the template posed
 pub posed_is : (k : KindMeaning) (gates : List Gate) (back : Bool) (r flips : ℕ) (members : List Member) → placed_of members ≡ each_posed k gates back flips

@@ -1,7 +1,6 @@
 -- The rules of a named occurrence against the tests of the code, which look at the frame alone.
-use Rattle.std.proofs.Common.{◌≡◌, ℕ, ◌<◌, ◌≤◌, Bool, true, false, ◌&&◌, List, [], ◌∷◌, length, get_or, take, drop, Some, None, sym, refl, ap, ◌∙◌, ap₂, arith}
+use Rattle.std.proofs.Common.{◌≡◌, ℕ, ◌<◌, Bool, true, false, ◌&&◌, List, [], ◌∷◌, length, get_or, take, drop, Some, None, sym, refl, ap, ◌∙◌, ap₂, arith}
 use Rattle.std.proofs.lemmas.List.{length-map}
-use Rattle.std.proofs.lemmas.Bool.{ltb-true, and_parts}
 use Rattle.gates.specs.declared.gate.Gate.{Gate}
 use Rattle.fixed_list.specs.Lists.{contents}
 use Rattle.gates.specs.Controls.{gate}
@@ -39,9 +38,6 @@ module _ (k : KindMeaning) (n : ℕ) (frame : List Gate) (m : Named) (e : Templa
       ∙ ap₂ (λ (z : ℕ) (xs : List ℕ). turn_test k n e (occurrence_of m).turn && (places_test z (length frame) xs && rest)) (sym sized) (sym far)
 
   module _ (turns : true ≡ turn_test k n e (occurrence_of m).turn) where
-    pub rotates : m.rotation ≤ size e
-    rotates = let lt : m.rotation < size e = ltb-true m.rotation (size e) (and_parts _ _ (sym turns)).0 in omega arith
-
     pub not_placed : false ≡ places_test many (length frame) ds → false ≡ rules
     not_placed h = ap₂ (λ (a b : Bool). a && (b && rest)) turns h ∙ sym tests
 

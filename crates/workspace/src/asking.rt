@@ -4,7 +4,7 @@ ghost use Rattle.gates.specs.declared.gate.Sign.{Sign as SignMeaning};
 ghost use Rattle.workspace.specs.Extensions.{answer_of, found_as, signed};
 ghost use Rattle.workspace.specs.Occurrences.{asks, fits_group, lowest, some_has_lem};
 ghost use Rattle.workspace.specs.Posing.{placed_of};
-ghost use Rattle.workspace.specs.Turns.{member};
+ghost use Rattle.workspace.specs.Turns.{in_listed, member};
 
 use super::posed::Member;
 use super::{PositionSet, positions};
@@ -22,15 +22,22 @@ pub(crate) struct Addition {
 #[derive(Clone, Copy)]
 pub(crate) struct NoGroup {}
 
+// Whether the position is in the group at that place of the list.
+fn is_listed(groups: &[PositionSet], place: usize, position: usize) -> bool
+    ensures { result ≡ in_listed groups.now place position }
+{
+    groups
+        .get(place)
+        .is_some_and(|group| positions::has_position(*group, position))
+}
+
 // Whether the position is in the group of that number: group 0 is the whole template, the listed groups count from 1.
 pub(crate) fn is_member(groups: &[PositionSet], number: usize, position: usize) -> bool
     ensures { result ≡ member groups.now number position }
 {
-    if number == 0 {
-        return true;
-    }
-    let listed = groups.get(number - 1);
-    listed.is_some_and(|group| positions::has_position(*group, position))
+    number
+        .checked_sub(1)
+        .is_none_or(|place| is_listed(groups, place, position))
 }
 
 // Whether the line is a control of this sign.
@@ -52,42 +59,46 @@ fn some_has(chosen: &[Member], sign: Sign, line: u8) -> bool
         .any(|chosen| is_signed(chosen.gate, sign, line))
 }
 
-// Whether the gates of the group are exactly those that have the line as a control.
-fn does_group_fit(groups: &[PositionSet], chosen: &[Member], line: u8, number: usize) -> bool
-    ensures { result ≡ fits_group groups.now (placed_of chosen.now) line number }
-{
-    chosen.iter().all(|chosen| is_member(groups, number, chosen.position)
-        == chosen.gate.has_control(line))
+// Where lines ask: the table of the map, the groups, and the chosen gates, each with its position.
+#[derive(Clone, Copy)]
+pub(crate) struct Asking<'a> {
+    pub(crate) table: &'a [u8],
+    pub(crate) groups: &'a [PositionSet],
+    pub(crate) chosen: &'a [Member],
 }
 
-// The lowest group that fits.
-fn find_group(groups: &[PositionSet], chosen: &[Member], line: u8) -> Option<usize>
-    ensures { (sign : SignMeaning) → found_as sign result ≡ lowest (fits_group groups.now (placed_of chosen.now) line) sign 0 (suc (length groups.now)) }
-{
-    (0..groups.len() + 1).find(|number| does_group_fit(groups, chosen, line, *number))
-}
+impl<'a> Asking<'a> {
+    // Whether the gates of the group are exactly those that have the line as a control.
+    fn does_group_fit(&self, line: u8, number: usize) -> bool
+        ensures { result ≡ fits_group self.now.groups.now (placed_of self.now.chosen.now) line number }
+    {
+        self.chosen.iter().all(|chosen| is_member(self.groups, number, chosen.position)
+            == chosen.gate.has_control(line))
+    }
 
-// What the line asks for: nothing where it is in the map or no control, else a control of the sign on which all agree.
-pub(crate) fn ask(
-    table: &[u8],
-    groups: &[PositionSet],
-    chosen: &[Member],
-    line: u8,
-) -> Result<Option<Addition>, NoGroup>
-    ensures { result ≡ answer_of line (asks table.now groups.now (placed_of chosen.now) line) }
-{
-    if table.contains(&line) {
-        return Ok(None);
+    // The lowest group that fits.
+    fn find_group(&self, line: u8) -> Option<usize>
+        ensures { (sign : SignMeaning) → found_as sign result ≡ lowest (fits_group self.now.groups.now (placed_of self.now.chosen.now) line) sign 0 (suc (length self.now.groups.now)) }
+    {
+        (0..self.groups.len() + 1).find(|number| self.does_group_fit(line, *number))
     }
-    let plus = some_has(chosen, Sign::Positive, line);
-    let minus = some_has(chosen, Sign::Negative, line);
-    if plus && minus {
-        return Err(NoGroup {});
+
+    // What the line asks for: nothing where it is in the map or no control, else a control of the sign on which all agree.
+    pub(crate) fn ask(&self, line: u8) -> Result<Option<Addition>, NoGroup>
+        ensures { result ≡ answer_of line (asks self.now.table.now self.now.groups.now (placed_of self.now.chosen.now) line) }
+    {
+        if self.table.contains(&line) {
+            return Ok(None);
+        }
+        let is_positive = some_has(self.chosen, Sign::Positive, line);
+        let is_negative = some_has(self.chosen, Sign::Negative, line);
+        let sign = match (is_positive, is_negative) {
+            (true, true) => return Err(NoGroup {}),
+            (true, false) => Sign::Positive,
+            (false, true) => Sign::Negative,
+            (false, false) => return Ok(None),
+        };
+        let group = self.find_group(line).ok_or(NoGroup {})?;
+        Ok(Some(Addition { line, sign, group }))
     }
-    if !plus && !minus {
-        return Ok(None);
-    }
-    let sign = if plus { Sign::Positive } else { Sign::Negative };
-    let group = find_group(groups, chosen, line).ok_or(NoGroup {})?;
-    Ok(Some(Addition { line, sign, group }))
 }

@@ -7,9 +7,11 @@ ghost use Rattle.workspace.specs.TemplateTests.{AnswersRules, RuleLaws, template
 use super::{Proposal, Template, TemplateRefusal, rules};
 use gates::GateKind;
 
-// Refuses the proposal for the first rule that it breaks.
-fn check_rules<K: GateKind>(proposal: &Proposal) -> Result<(), TemplateRefusal>
-    ensures { result_err result ≡ template_test K.means (proposed proposal.now) }
+// The template that is proposed, where it meets the rules; else the refusal of the first rule that it breaks.
+pub fn check_proposal<K: GateKind>(proposal: &Proposal) -> Result<Template, TemplateRefusal>
+    ensures answers { result_err result ≡ template_test K.means (proposed proposal.now) }
+    ensures holds { IfOk result (λ t. template_of t ≡ proposed proposal.now) }
+    ensures lawful { AnswersRules K.means (proposed proposal.now) (result_err result) }
 {
     if !rules::are_lines_few(proposal) {
         return Err(TemplateRefusal::Lines);
@@ -21,23 +23,15 @@ fn check_rules<K: GateKind>(proposal: &Proposal) -> Result<(), TemplateRefusal>
     if !rules::are_groups_sound(proposal) {
         return Err(TemplateRefusal::Groups);
     }
-    if !rules::does_whole_restore::<K>(proposal) {
+    // The rules that are left are tried on the template as it is held.
+    let template = Template::holding(proposal);
+    if !rules::does_whole_restore::<K>(&template) {
         return Err(TemplateRefusal::Whole);
     }
-    if !rules::do_selections_restore::<K>(proposal) {
+    if !rules::do_selections_restore::<K>(&template) {
         return Err(TemplateRefusal::Selection);
     }
-    Ok(())
-}
-
-// The template that is proposed, where it meets the rules; else the refusal of the first rule that it breaks.
-pub fn check_proposal<K: GateKind>(proposal: &Proposal) -> Result<Template, TemplateRefusal>
-    ensures answers { result_err result ≡ template_test K.means (proposed proposal.now) }
-    ensures holds { IfOk result (λ t. template_of t ≡ proposed proposal.now) }
-    ensures lawful { AnswersRules K.means (proposed proposal.now) (result_err result) }
-{
-    check_rules::<K>(proposal)?;
-    Ok(Template::holding(proposal))
+    Ok(template)
 }
 
 // The laws of the rules: each test decides its rule, for every kind.

@@ -16,6 +16,7 @@ fn read_table(lines: &[u16]) -> Option<Table>
     requires { length lines.now ≤ 4 }
     ensures { option_map contents result ≡ (if all_pass (λ x. nat_lt x 256) lines.now then Some lines.now else None) }
 {
+    // Filled item by item: a list takes no iterator, which would have to be asked whether it ends.
     let mut table = FixedList::new(0);
     for line in lines {
         let _ = table.push(u8::try_from(*line).ok()?);
@@ -28,6 +29,7 @@ fn read_later(numbers: &[u16]) -> FixedList<usize, 7>
     requires { length numbers.now ≤ 7 }
     ensures { contents result ≡ numbers.now }
 {
+    // Filled item by item: a list takes no iterator, which would have to be asked whether it ends.
     let mut later = FixedList::new(0);
     for number in numbers {
         let _ = later.push(usize::from(*number));
@@ -55,6 +57,7 @@ pub(crate) fn decode(lines: u8, key: &Key) -> Option<Named>
     Some(Named {
         first: usize::from(*first),
         number: usize::from(*number),
+        // The direction is 0 or 1 in a key, by which it is ranked.
         back: *back == 1,
         rotation: usize::from(*rotation),
         flips: LineSet::from(*flips),

@@ -9,7 +9,7 @@ ghost use Rattle.workspace.specs.Posing.{placed_of};
 ghost use Rattle.workspace.specs.Proposals.{template_of};
 ghost use Rattle.workspace.specs.Turns.{at_position, placed, turned};
 
-use super::asking::{Addition, NoGroup, ask, is_member};
+use super::asking::{Addition, Asking, NoGroup, is_member};
 use super::named::Named;
 use super::posed::{Member, Posed};
 use super::posing::pose;
@@ -19,8 +19,7 @@ use gates::{Gate, GateKind};
 
 // The template turned, each gate with its position.
 fn turn_template<K: GateKind>(template: &Template, named: &Named) -> Posed
-    ensures { named.now.rotation ≤ length (template_of template.now).gates
-        → placed_of (contents result) ≡ turned K.means (occurrence_of named.now).turn (placed (template_of template.now).gates) }
+    ensures { placed_of (contents result) ≡ turned K.means (occurrence_of named.now).turn (placed (template_of template.now).gates) }
 {
     let table = named.table.as_slice();
     let posed = pose::<K>(template, named.back, named.rotation, named.flips);
@@ -37,6 +36,7 @@ fn turn_template<K: GateKind>(template: &Template, named: &Named) -> Posed
 fn stand_beside(turned: &Posed, gates: &[Gate]) -> Posed
     ensures { placed_of (contents result) ≡ beside (placed_of (contents turned.now)) gates.now }
 {
+    // Filled item by item: a list takes no iterator, which would have to be asked whether it ends.
     let mut standing = FixedList::new(Member::BLANK);
     for (member, gate) in turned.as_slice().iter().zip(gates) {
         let _ = standing.push(Member {
@@ -71,20 +71,14 @@ fn control_group<K: GateKind>(posed: &Posed, groups: &[PositionSet], addition: A
 }
 
 // The turned gates with the controls that the lines ask for; refused where a line asks for what no group can give.
-fn add_controls<K: GateKind>(
-    turned: &Posed,
-    chosen: &[Member],
-    lines: u8,
-    table: &[u8],
-    groups: &[PositionSet],
-) -> Result<Posed, NoGroup>
+fn add_controls<K: GateKind>(turned: &Posed, asking: &Asking, lines: u8) -> Result<Posed, NoGroup>
     ensures { posed_of result
-        ≡ extended_by K.means groups.now (placed_of (contents turned.now)) (gathered (asks table.now groups.now (placed_of chosen.now)) lines) }
+        ≡ extended_by K.means asking.now.groups.now (placed_of (contents turned.now)) (gathered (asks asking.now.table.now asking.now.groups.now (placed_of asking.now.chosen.now)) lines) }
 {
     let mut extended = *turned;
     for line in 0..lines {
-        if let Some(addition) = ask(table, groups, chosen, line)? {
-            extended = control_group::<K>(&extended, groups, addition);
+        if let Some(addition) = asking.ask(line)? {
+            extended = control_group::<K>(&extended, asking.groups, addition);
         }
     }
     Ok(extended)
@@ -98,17 +92,15 @@ pub(crate) fn extend<K: GateKind>(
     named: &Named,
 ) -> Result<Posed, NoGroup>
     ensures { (gates : List GateMeaning) → chosen.now ≡ at_places gates (places (occurrence_of named.now))
-        → named.now.rotation ≤ length (template_of template.now).gates
         → posed_of result ≡ turned_by K.means (template_of template.now) (occurrence_of named.now)
         (additions K.means lines gates (template_of template.now) (occurrence_of named.now)) }
 {
     let turned = turn_template::<K>(template, named);
     let standing = stand_beside(&turned, chosen);
-    add_controls::<K>(
-        &turned,
-        standing.as_slice(),
-        lines,
-        named.table.as_slice(),
-        template.groups(),
-    )
+    let asking = Asking {
+        table: named.table.as_slice(),
+        groups: template.groups(),
+        chosen: standing.as_slice(),
+    };
+    add_controls::<K>(&turned, &asking, lines)
 }

@@ -12,6 +12,7 @@ mod examples;
 mod extension;
 mod frame;
 mod framing;
+mod held;
 mod holdings;
 mod levels;
 mod line;

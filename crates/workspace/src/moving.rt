@@ -19,10 +19,6 @@ fn does_pass<K: GateKind>(before: &[Gate], chosen: LineSet, gate: Gate) -> bool
 pub(crate) fn do_move_front<K: GateKind>(gates: &[Gate], chosen: LineSet) -> bool
     ensures { result ≡ moves_front K.means (bit chosen) [] gates.now }
 {
-    for (distance, gate) in gates.iter().enumerate() {
-        if has_position(chosen, distance) && !does_pass::<K>(&gates[..distance], chosen, *gate) {
-            return false;
-        }
-    }
-    true
+    gates.iter().enumerate().all(|(distance, gate)| !has_position(chosen, distance)
+        || does_pass::<K>(&gates[..distance], chosen, *gate))
 }

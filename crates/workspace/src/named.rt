@@ -32,6 +32,7 @@ impl Named {
     pub(crate) fn distances(&self) -> Distances
         ensures { contents result ≡ 0 ∷ contents self.now.later }
     {
+        // Filled item by item: a list takes no iterator, which would have to be asked whether it ends.
         let mut distances = FixedList::of(&[0], 0);
         for distance in self.later.as_slice() {
             let _ = distances.push(*distance);

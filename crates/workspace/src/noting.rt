@@ -26,7 +26,7 @@ pub(crate) fn posed_note<K: GateKind>(
     rotation: usize,
     flips: LineSet,
 ) -> Note
-    ensures poses { rotation ≤ length (template_of template.now).gates → members_in result.images ≡ posed_list K.means (template_of template.now) back rotation flips }
+    ensures poses { members_in result.images ≡ posed_list K.means (template_of template.now) back rotation flips }
     ensures reaches { map (λ m. m.reached) (contents result.images) ≡ take (length (contents result.images)) open_reach }
     ensures chooses { result.chosen ≡ 1 }
 {

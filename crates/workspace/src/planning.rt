@@ -61,6 +61,7 @@ impl<S: Store> Holdings<S> {
             → OccursIn S.Kind.means (condition_of S.means self.old) (keyed key.now)
             → Replaced S.Kind.means (condition_of S.means self.old) (keyed key.now) result (condition_of S.means self.new) }
     {
+        // A key that occurs has a plan; the zeros stand for one that does not.
         match self.plan(key) {
             Some(plan) => self.carry_out(&plan),
             None => Replacement {

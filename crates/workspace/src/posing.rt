@@ -1,5 +1,5 @@
 // A template posed: its gates directed, rotated and flipped, each with its position.
-ghost use Rattle.std.specs.Prelude.{◌≡◌, ◌≤◌, length};
+ghost use Rattle.std.specs.Prelude.{◌≡◌};
 ghost use Rattle.fixed_list.specs.Lists.{contents};
 ghost use Rattle.gates.specs.Cascades.{flipped_or};
 ghost use Rattle.workspace.specs.Matching.{posed};
@@ -34,10 +34,11 @@ pub(crate) fn pose<K: GateKind>(
     rotation: usize,
     flips: LineSet,
 ) -> Posed
-    ensures { rotation ≤ length (template_of template.now).gates → placed_of (contents result) ≡ posed K.means (template_of template.now) back rotation flips }
+    ensures { placed_of (contents result) ≡ posed K.means (template_of template.now) back rotation flips }
 {
     let gates = template.gates();
     let size = template.size();
+    // Turned round in an array, since a list lends its items for reading only.
     let mut members = [Member::BLANK; MOST_GATES];
     for (position, gate) in gates.iter().enumerate() {
         let gate = pose_gate::<K>(*gate, back, flips);

@@ -8,6 +8,7 @@ use super::PositionSet;
 use gates::sets;
 
 // Whether the position is in the set; one that no set can have is not.
+// By `usize`, as positions and distances are counted; lines are `u8`.
 pub(super) fn has_position(set: PositionSet, position: usize) -> bool
     ensures { result ≡ bit set position }
 {

@@ -11,6 +11,7 @@ use gates::{Gate, GateKind, LineSet};
 fn run_chosen<K: GateKind>(gates: &[Gate], chosen: PositionSet, state: LineSet) -> LineSet
     ensures { bit result ≡ run K.means (picked (bit chosen) gates.now) (bit state) }
 {
+    // A list's gates in place, without copying out the chosen ones.
     let mut reached = state;
     for (position, gate) in gates.iter().enumerate() {
         if positions::has_position(chosen, position) {

@@ -1,12 +1,12 @@
 // The rules that a template meets, each with its test.
 ghost use Rattle.std.specs.Prelude.{◌≡◌, ◌≤◌, if◌then◌else◌, length};
 ghost use Rattle.gates.specs.Lines.{bit};
-ghost use Rattle.workspace.specs.Proposals.{proposed};
+ghost use Rattle.workspace.specs.Proposals.{proposed, template_of};
 ghost use Rattle.workspace.specs.Templates.{unselected};
 ghost use Rattle.workspace.specs.TemplateTests.{gates_test, groups_test, lines_test, restores_test, selections_test, size_test, whole_test};
 
 use super::template::{MOST_GATES, MOST_GROUPS, MOST_LINES};
-use super::{PositionSet, Proposal, positions, restoring};
+use super::{PositionSet, Proposal, Template, positions, restoring};
 use gates::{GateKind, GateRefusal, check_gate};
 
 // Whether there are one to four lines.
@@ -27,6 +27,7 @@ pub(super) fn are_gates_few(proposal: &Proposal) -> bool
 pub(super) fn check_gates<K: GateKind>(proposal: &Proposal) -> Result<(), GateRefusal>
     ensures { result ≡ if gates_test K.means (proposed proposal.now) then Ok tt else Err GateRefusal.NotWellFormed }
 {
+    // A loop: `try_for_each` leaves its result open to the proof.
     for gate in proposal.gates {
         check_gate::<K>(*gate, proposal.lines)?;
     }
@@ -47,30 +48,24 @@ pub(super) fn are_groups_sound(proposal: &Proposal) -> bool
 }
 
 // Whether the gates in none of the selected groups restore every state of the template's lines.
-fn does_part_restore<K: GateKind>(proposal: &Proposal, selection: PositionSet) -> bool
-    requires few_lines { proposal.now.lines ≤ MOST_LINES }
-    requires few_gates { length proposal.now.gates.now ≤ MOST_GATES }
-    ensures { result ≡ restores_test K.means proposal.now.lines (unselected (bit selection) (proposed proposal.now)) }
+fn does_part_restore<K: GateKind>(template: &Template, selection: PositionSet) -> bool
+    ensures { result ≡ restores_test K.means (template_of template.now).lines (unselected (bit selection) (template_of template.now)) }
 {
-    let chosen = positions::outside_selected(proposal.groups, selection);
-    restoring::do_chosen_restore::<K>(proposal.gates, chosen, proposal.lines)
+    let chosen = positions::outside_selected(template.groups(), selection);
+    restoring::do_chosen_restore::<K>(template.gates(), chosen, template.lines())
 }
 
 // Whether the whole template restores every state of its lines.
-pub(super) fn does_whole_restore<K: GateKind>(proposal: &Proposal) -> bool
-    requires few_lines { proposal.now.lines ≤ MOST_LINES }
-    requires few_gates { length proposal.now.gates.now ≤ MOST_GATES }
-    ensures { result ≡ whole_test K.means (proposed proposal.now) }
+pub(super) fn does_whole_restore<K: GateKind>(template: &Template) -> bool
+    ensures { result ≡ whole_test K.means (template_of template.now) }
 {
-    does_part_restore::<K>(proposal, 0)
+    does_part_restore::<K>(template, 0)
 }
 
 // Whether, for every selection of the groups, the gates in none of the selected do.
-pub(super) fn do_selections_restore<K: GateKind>(proposal: &Proposal) -> bool
-    requires few_lines { proposal.now.lines ≤ MOST_LINES }
-    requires few_gates { length proposal.now.gates.now ≤ MOST_GATES }
-    requires few_groups { length proposal.now.groups.now ≤ MOST_GROUPS }
-    ensures { result ≡ selections_test K.means (proposed proposal.now) }
+pub(super) fn do_selections_restore<K: GateKind>(template: &Template) -> bool
+    ensures { result ≡ selections_test K.means (template_of template.now) }
 {
-    (0..1u32 << proposal.groups.len()).all(|selection| does_part_restore::<K>(proposal, selection))
+    let selections = 1u32 << template.groups().len();
+    (0..selections).all(|selection| does_part_restore::<K>(template, selection))
 }

@@ -60,16 +60,20 @@ impl Shelf {
     pub(crate) fn template_at(&self, number: usize) -> Option<&Template>
         ensures { IsNumbered (entries_of self.now) number result }
     {
-        let entry = self.entries.as_slice().get(number)?;
-        Some(&entry.template)
+        self.entries
+            .as_slice()
+            .get(number)
+            .map(|entry| &entry.template)
     }
 
     // How many replacements were made by an entry, where there is one of that number.
     pub(crate) fn replacements(&self, number: usize) -> Option<u16>
         ensures { result ≡ option_map (λ e. e.replacements) (slice_get (entries_of self.now) number) }
     {
-        let entry = self.entries.as_slice().get(number)?;
-        Some(entry.replacements)
+        self.entries
+            .as_slice()
+            .get(number)
+            .map(|entry| entry.replacements)
     }
 
     // Counts one more replacement for an entry, where there is one of that number.

@@ -10,6 +10,7 @@ use gates::GateKind;
 use stores::Store;
 
 // Takes out the gate at the first place and those at these distances behind it, the last first, so that the places before it stay what they are.
+// A refusal changes nothing, and none comes where the occurrence is there.
 pub(crate) fn take_out<S: Store>(store: &mut S, first: usize, later: &[usize])
     ensures { S.means store.new ≡ with_gates (S.means store.old)
         (without (S.means store.old).gates (first ∷ map (λ d. min (first + d) (2 ^ 64 - 1)) later.now)) }
@@ -21,6 +22,7 @@ pub(crate) fn take_out<S: Store>(store: &mut S, first: usize, later: &[usize])
 }
 
 // Puts the inverses of the members' gates before a place, the last member's first.
+// A refusal changes nothing, and none comes where the occurrence is there.
 pub(crate) fn put_inverses<S: Store>(store: &mut S, place: usize, members: &[Member])
     ensures { AllByRecursion (λ m. Formed S.Kind.means (S.means store.old).lines m.gate) members.now
         → place ≤ length (S.means store.old).gates

@@ -22,12 +22,10 @@ fn are_flippable<K: GateKind>(gates: &[Gate], back: bool, flips: LineSet) -> boo
 fn are_distinct(table: &[u8]) -> bool
     ensures { result ≡ distinct table.now }
 {
-    for (place, line) in table.iter().enumerate() {
-        if table[place + 1..].contains(line) {
-            return false;
-        }
-    }
-    true
+    table
+        .iter()
+        .enumerate()
+        .all(|(place, line)| !table[place + 1..].contains(line))
 }
 
 // Whether the table takes so many lines to different ones of `lines`.

@@ -10,22 +10,22 @@ use Rattle.workspace.proofs.extension.add_controls.Goals as goal
 use Rattle.workspace.proofs.extension.add_controls.Goals.{in-Some, in_default}
 
 pub loop-line-init : goal.loop-line-init
-loop-line-init g c = by_none g.K.GateKind.means c.args.groups.now (placed_of (contents c.args.turned.now)) (asks c.args.table.now c.args.groups.now (placed_of c.args.chosen.now))
+loop-line-init g c = by_none g.K.GateKind.means c.args.asking.now.groups.now (placed_of (contents c.args.turned.now)) (asks c.args.asking.now.table.now c.args.asking.now.groups.now (placed_of c.args.asking.now.chosen.now))
 
 pub returns-in_err-addition : goal.returns-in_err-addition
 returns-in_err-addition g c =
     let xs = placed_of (contents c.args.turned.now) in
-    let asking = asks c.args.table.now c.args.groups.now (placed_of c.args.chosen.now) in
-    let refused : None ≡ extended_by g.K.GateKind.means c.args.groups.now xs (gathered asking c.args.lines) =
-    by_refused g.K.GateKind.means c.args.groups.now xs asking c.loop-line.line c.args.lines _ c.loop-line-test.true c.in_err-addition.ensures in
+    let asking = asks c.args.asking.now.table.now c.args.asking.now.groups.now (placed_of c.args.asking.now.chosen.now) in
+    let refused : None ≡ extended_by g.K.GateKind.means c.args.asking.now.groups.now xs (gathered asking c.args.lines) =
+    by_refused g.K.GateKind.means c.args.asking.now.groups.now xs asking c.loop-line.line c.args.lines _ c.loop-line-test.true c.in_err-addition.ensures in
     posed_refused c.from_residual.result c.from_residual.ensures.0 ∙ refused
 
 pub loop-line-preserved : goal.loop-line-preserved
 loop-line-preserved g c =
     let k = g.K.GateKind.means in
-    let groups = c.args.groups.now in
+    let groups = c.args.asking.now.groups.now in
     let xs = placed_of (contents c.args.turned.now) in
-    let asking = asks c.args.table.now groups (placed_of c.args.chosen.now) in
+    let asking = asks c.args.asking.now.table.now groups (placed_of c.args.asking.now.chosen.now) in
     let line = c.loop-line.line in
     let next = by_answer k groups xs asking line (placed_of (contents c.loop-line.extended)) (placed_of (contents c.match-branch-2.extended)) in
     elim c.match-branch-2.branch [

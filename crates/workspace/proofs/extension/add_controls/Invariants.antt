@@ -8,4 +8,4 @@ use Rattle.workspace.proofs.extension.add_controls.Given as goal
 -- the controls for the lines so far are added
 abbrev pub invariant-loop-line : goal.invariant-loop-line
 invariant-loop-line g l =
-    Some (placed_of (contents l.extended)) ≡ extended_by g.K.GateKind.means l.groups (placed_of (contents l.turned)) (gathered (asks l.table l.groups (placed_of l.chosen)) l.line)
+    Some (placed_of (contents l.extended)) ≡ extended_by g.K.GateKind.means l.asking.groups.now (placed_of (contents l.turned)) (gathered (asks l.asking.table.now l.asking.groups.now (placed_of l.asking.chosen.now)) l.line)

@@ -16,10 +16,10 @@ returns g c =
     (λ some. let changed = c.change.ensures.there some in (changed.item, changed.item', changed.was, search rules, search rules, changed.is))
     (λ none. search rules) in
     record {
-      poses = λ turns.
+      poses =
           made.0
           ∙ zip_kept _ (λ (m : Member). at_position m.position m.gate) placed (λ x y turned. search rules) members (contents c.map-images.result) c.map-images.ensures
-          ∙ c.pose-posed.ensures turns;
+          ∙ c.pose-posed.ensures;
       reaches = made.1;
       chooses = refl;
     }

@@ -1,4 +1,4 @@
-use Rattle.std.proofs.Common.{◌≡◌, ℕ, Bool, List, map, length, take, sym, ap, ◌∙◌, ap₂, arith, length-set}
+use Rattle.std.proofs.Common.{◌≡◌, ℕ, Bool, min, List, map, length, take, sym, ap, ◌∙◌, ap₂, arith, length-set}
 use Rattle.fixed_list.specs.Lists.{contents}
 use Rattle.std.proofs.lemmas.List.{take_all, length-take}
 use Rattle.gates.specs.declared.gate.Gate.{Gate}
@@ -6,7 +6,7 @@ use Rattle.gates.specs.Cascades.{rotated, flipped_or}
 use Rattle.workspace.specs.declared.posed.Member.{Member}
 use Rattle.workspace.specs.Posing.{placed_of}
 use Rattle.workspace.specs.Turns.{on_gate, placed, directed}
-use Rattle.workspace.proofs.Poses.{each_posed, each_long, each_more, in_order, posed_is}
+use Rattle.workspace.proofs.Poses.{each_posed, each_long, each_more, in_order, in_order_long, rotated_least, posed_is}
 use Rattle.workspace.proofs.posing.pose.Goals as goal
 use Rattle.workspace.proofs.posing.pose.Goals.{then-back, else-back}
 
@@ -15,21 +15,21 @@ loop-position-preserved g c =
     let i = c.loop-position.position in
     let members = c.loop-position.members in
     let gates = c.gates-gates.result.now in
-    let sized : c.size-size.result ≡ length gates = c.size-size.ensures.is ∙ sym (ap length c.gates-gates.ensures) in
+    let sized : c.size-size.result ≡ length gates = c.size-size.ensures.is ∙ sym (ap length c.gates-gates.ensures.is) in
     record {
       long = length-set members i _ ∙ c.loop-position.invariant.long;
       front = each_more g.K.GateKind.means gates c.args.back c.args.flips members i c.pose_gate-gate.result (omega (arith, c.loop-position.invariant.long, c.loop-position-test.true, c.size-size.ensures.few)) c.loop-position-test.true c.pose_gate-gate.ensures c.loop-position.invariant.front;
     }
 
 pub returns : goal.returns
-returns g c le =
+returns g c =
     let k = g.K.GateKind.means in
     let gates = c.gates-gates.result.now in
     let back = c.args.back in
     let r = c.args.rotation in
     let flips = c.args.flips in
     let size = c.size-size.result in
-    let sized : size ≡ length gates = c.size-size.ensures.is ∙ sym (ap length c.gates-gates.ensures) in
+    let sized : size ≡ length gates = c.size-size.ensures.is ∙ sym (ap length c.gates-gates.ensures.is) in
     let members = take size c.loop-position.members in
     let long : length members ≡ size = omega (arith, length-take size c.loop-position.members, c.loop-position.invariant.long, c.size-size.ensures.few) in
     let at-end : c.loop-position.position ≡ size = omega (arith, c.loop-position-test.false, c.loop-position.auto.position-end) in
@@ -42,8 +42,8 @@ returns g c le =
       | else-back w ↦ w.counted-is ∙ ap (λ (b : Bool). in_order b members) (sym w.if-back.false)
     ] in
     let whole : contents c.of.result ≡ take 8 c.rotate_left.new.self = c.of.ensures in
-    let same : c.min.result ≡ r = omega (arith, c.min.ensures, le, c.size-size.ensures.is) in
-    let turned : c.rotate_left.new.self ≡ rotated r (in_order back members) = c.rotate_left.ensures.after ∙ ap₂ (λ (m : ℕ) (xs : List Member). rotated m xs) same ordered in
+    let same : c.min.result ≡ min r (length (in_order back members)) = c.min.ensures ∙ ap (min r) (sym (in_order_long back members ∙ long)) in
+    let turned : c.rotate_left.new.self ≡ rotated r (in_order back members) = c.rotate_left.ensures.after ∙ ap₂ (λ (m : ℕ) (xs : List Member). rotated m xs) same ordered ∙ rotated_least r (in_order back members) in
     ap placed_of (whole ∙ take_all 8 c.rotate_left.new.self (omega (arith, c.rotate_left.ensures.len, c.if-back.auto.counted, long, c.size-size.ensures.few)) ∙ turned)
     ∙ posed_is k gates back r flips members each
-    ∙ ap (λ (gs : List Gate). map (on_gate (flipped_or k flips)) (rotated r (directed k back (placed gs)))) c.gates-gates.ensures
+    ∙ ap (λ (gs : List Gate). map (on_gate (flipped_or k flips)) (rotated r (directed k back (placed gs)))) c.gates-gates.ensures.is
