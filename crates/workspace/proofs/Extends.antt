@@ -1,6 +1,7 @@
 -- A turned template extended line by line, and the chosen gates beside it.
 use Rattle.std.proofs.Common.{◌≡◌, ℕ, zero, suc, ◌+◌, ◌<◌, ◌≤◌, min, ◌⊎◌, List, [], ◌∷◌, ◌++◌, map, length, get_or, take, drop, Some, None, Ok, Err, Option, Result, sym, refl, ap, ◌∙◌, ap₂, inl, inr, arith}
-use Rattle.std.specs.List.{AllByRecursion}
+use Rattle.std.specs.List.{AllByRecursion, zip}
+use Rattle.std.proofs.lemmas.Slice.Zip.{length-zip}
 use Rattle.std.proofs.lemmas.List.{get_or-take, get_or-drop, get_or-map, length-map, length-take, map_push, take_more}
 use Rattle.std.proofs.lemmas.Bool.{cases_eq}
 use Rattle.std.specs.Result.{IsErr}
@@ -43,6 +44,18 @@ pub beside_long : (xs : List Placed) (gs : List Gate) → length (beside xs gs) 
 beside_long [] gs = let e : 0 ≡ min 0 (length gs) = omega arith in e
 beside_long (x ∷ xs) [] = let e : 0 ≡ min (suc (length xs)) 0 = omega arith in e
 beside_long (x ∷ xs) (g ∷ gs) = let e : suc (length (beside xs gs)) ≡ min (suc (length xs)) (suc (length gs)) = omega (arith, beside_long xs gs) in e
+
+-- the gates put in the stead of the members' own, pair by pair
+abbrev pub standing_of : List Member → List Gate → List Member
+standing_of ms gs = map (λ (p : Member × Gate). record { position = p.0.position; gate = p.1 }) (zip ms gs)
+
+pub standing_few : (ms : List Member) (gs : List Gate) → length (standing_of ms gs) ≤ length ms
+standing_few ms gs = omega (arith, length-map {B = Member} (zip ms gs) (λ (p : Member × Gate). record { position = p.0.position; gate = p.1 }), length-zip ms gs)
+
+pub beside_zip : (ms : List Member) (gs : List Gate) → placed_of (standing_of ms gs) ≡ beside (placed_of ms) gs
+beside_zip [] gs = refl
+beside_zip (m ∷ ms) [] = refl
+beside_zip (m ∷ ms) (g ∷ gs) = ap (λ (r : List Placed). at_position m.position g ∷ r) (beside_zip ms gs)
 
 beside_at : (xs : List Placed) (gs : List Gate) (i : ℕ) → i < length xs → i < length gs → get_or (beside xs gs) i no_member ≡ at_position (get_or xs i no_member).position (get_or gs i no_gate)
 beside_at [] gs i lx lg = absurd (let z : ⊥ = omega arith in z)

@@ -16,7 +16,7 @@ fn read_table(lines: &[u16]) -> Option<Table>
     requires { length lines.now ≤ 4 }
     ensures { option_map contents result ≡ (if all_pass (λ x. nat_lt x 256) lines.now then Some lines.now else None) }
 {
-    // Filled item by item: a list takes no iterator, which would have to be asked whether it ends.
+    // A loop, since a number that is no line ends it.
     let mut table = FixedList::new(0);
     for line in lines {
         let _ = table.push(u8::try_from(*line).ok()?);
@@ -29,12 +29,7 @@ fn read_later(numbers: &[u16]) -> FixedList<usize, 7>
     requires { length numbers.now ≤ 7 }
     ensures { contents result ≡ numbers.now }
 {
-    // Filled item by item: a list takes no iterator, which would have to be asked whether it ends.
-    let mut later = FixedList::new(0);
-    for number in numbers {
-        let _ = later.push(usize::from(*number));
-    }
-    later
+    FixedList::collected(numbers.iter().map(|number| usize::from(*number)), 0)
 }
 
 // The occurrence that the key names, for a template with so many lines; none where no occurrence has such a key.

@@ -36,15 +36,12 @@ fn turn_template<K: GateKind>(template: &Template, named: &Named) -> Posed
 fn stand_beside(turned: &Posed, gates: &[Gate]) -> Posed
     ensures { placed_of (contents result) ≡ beside (placed_of (contents turned.now)) gates.now }
 {
-    // Filled item by item: a list takes no iterator, which would have to be asked whether it ends.
-    let mut standing = FixedList::new(Member::BLANK);
-    for (member, gate) in turned.as_slice().iter().zip(gates) {
-        let _ = standing.push(Member {
-            gate: *gate,
-            ..*member
-        });
-    }
-    standing
+    let pairs = turned.as_slice().iter().zip(gates);
+    let standing = pairs.map(|(member, gate)| Member {
+        gate: *gate,
+        ..*member
+    });
+    FixedList::collected(standing, Member::BLANK)
 }
 
 // The gate with one more control, where its position is in the group.

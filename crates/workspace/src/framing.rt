@@ -15,14 +15,10 @@ use stores::Store;
 pub(crate) fn frame_from<S: Store>(store: &S, first: usize) -> Frame
     ensures { contents result ≡ frame_at (S.means store.now).gates first }
 {
-    let mut frame = FixedList::new(Gate::BLANK);
     let end = store.count().min(first.saturating_add(REACH));
-    // Filled item by item: a list takes no iterator, which would have to be asked whether it ends.
-    for place in first..end {
-        // No refusal comes of a place below the count, so none is handed on.
-        let _ = frame.push(store.read(place).unwrap_or(Gate::BLANK));
-    }
-    frame
+    // No refusal comes of a place below the count, so none is handed on.
+    let gates = (first..end).map(|place| store.read(place).unwrap_or(Gate::BLANK));
+    FixedList::collected(gates, Gate::BLANK)
 }
 
 // The gates at the distances; a blank one behind the end of the frame.

@@ -5,6 +5,7 @@ ghost use Rattle.fixed_list.specs.Lists.{contents};
 use super::template::MOST_GATES;
 use fixed_list::FixedList;
 use gates::LineSet;
+use std::iter;
 
 // How many numbers stand before a key's line map.
 pub(crate) const BEFORE_MAP: usize = 6;
@@ -32,11 +33,7 @@ impl Named {
     pub(crate) fn distances(&self) -> Distances
         ensures { contents result ≡ 0 ∷ contents self.now.later }
     {
-        // Filled item by item: a list takes no iterator, which would have to be asked whether it ends.
-        let mut distances = FixedList::of(&[0], 0);
-        for distance in self.later.as_slice() {
-            let _ = distances.push(*distance);
-        }
-        distances
+        let later = self.later.as_slice().iter().copied();
+        FixedList::collected(iter::once(0).chain(later), 0)
     }
 }
