@@ -7,6 +7,7 @@ ghost use Rattle.workspace.specs.Naming.{named_of, readable, spelled};
 ghost use Rattle.workspace.specs.TemplateTests.{all_pass};
 
 use super::named::{Named, Table};
+use super::posed::Pose;
 use fixed_list::FixedList;
 use gates::LineSet;
 use search::Key;
@@ -58,9 +59,11 @@ pub(crate) fn decode(lines: u8, key: &Key) -> Option<Named>
         first: usize::from(*first),
         number: usize::from(*number),
         // The direction is 0 or 1 in a key, by which it is ranked.
-        back: *back == 1,
-        rotation: usize::from(*rotation),
-        flips: LineSet::from(*flips),
+        pose: Pose {
+            back: *back == 1,
+            rotation: usize::from(*rotation),
+            flips: LineSet::from(*flips),
+        },
         table: read_table(map)?,
         later: read_later(later),
     })

@@ -10,6 +10,7 @@ ghost use Rattle.workspace.specs.Shelves.{IsNumbered, entries_of};
 use super::named::BEFORE_MAP;
 use super::notes::{NO_IMAGE, Note};
 use super::occurs::is_occurrence;
+use super::posed::Pose;
 use super::start::{Start, start_at};
 use super::template::MOST_GATES;
 use super::{Holdings, Template, levels, noting};
@@ -89,9 +90,11 @@ impl<S: Store> Problem for Holdings<S> {
             None => *above,
             Some(0) => noting::posed_note::<S::Kind>(
                 template,
-                key.at(3) == 1,
-                key.at(4) as usize,
-                key.at(5) as LineSet,
+                Pose {
+                    back: key.at(3) == 1,
+                    rotation: key.at(4) as usize,
+                    flips: key.at(5) as LineSet,
+                },
             ),
             Some(behind) => {
                 let line = behind - 1;

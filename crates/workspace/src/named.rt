@@ -2,9 +2,9 @@
 ghost use Rattle.std.specs.Prelude.{◌≡◌, ◌∷◌};
 ghost use Rattle.fixed_list.specs.Lists.{contents};
 
+use super::posed::Pose;
 use super::template::MOST_GATES;
 use fixed_list::FixedList;
-use gates::LineSet;
 
 // How many numbers stand before a key's line map.
 pub(crate) const BEFORE_MAP: usize = 6;
@@ -15,14 +15,12 @@ pub(crate) type Table = FixedList<u8, 4>;
 // The distances of places from the first, which is at 0.
 pub(crate) type Distances = FixedList<usize, MOST_GATES>;
 
-// An occurrence that a key names: its template's number, the turn, and its places, the later ones by their distance from the first.
+// An occurrence that a key names: its template's number, the pose and the table of the turn, and its places, the later ones by their distance from the first.
 #[derive(Clone, Copy)]
 pub(crate) struct Named {
     pub(crate) first: usize,
     pub(crate) number: usize,
-    pub(crate) back: bool,
-    pub(crate) rotation: usize,
-    pub(crate) flips: LineSet,
+    pub(crate) pose: Pose,
     pub(crate) table: Table,
     pub(crate) later: FixedList<usize, 7>,
 }
