@@ -6,7 +6,7 @@ ghost use Rattle.search.specs.Keys.{keyed};
 ghost use Rattle.workspace.specs.Naming.{named_of, readable, spelled};
 ghost use Rattle.workspace.specs.TemplateTests.{all_pass};
 
-use super::named::{Named, Table};
+use super::named::{MOST_LATER, MOST_MAPPED, Named, Table};
 use super::posed::Pose;
 use fixed_list::FixedList;
 use gates::LineSet;
@@ -14,7 +14,7 @@ use search::Key;
 
 // The table that takes a template's lines to these; none where one is no line.
 fn read_table(lines: &[u16]) -> Option<Table>
-    requires { length lines.now ≤ 4 }
+    requires { length lines.now ≤ MOST_MAPPED }
     ensures { option_map contents result ≡ (if all_pass (λ x. nat_lt x 256) lines.now then Some lines.now else None) }
 {
     // Filled item by item: a list takes no iterator, which would have to be asked whether it ends.
@@ -26,8 +26,8 @@ fn read_table(lines: &[u16]) -> Option<Table>
 }
 
 // The numbers as distances.
-fn read_later(numbers: &[u16]) -> FixedList<usize, 7>
-    requires { length numbers.now ≤ 7 }
+fn read_later(numbers: &[u16]) -> FixedList<usize, MOST_LATER>
+    requires { length numbers.now ≤ MOST_LATER }
     ensures { contents result ≡ numbers.now }
 {
     // Filled item by item: a list takes no iterator, which would have to be asked whether it ends.
@@ -47,9 +47,9 @@ pub(crate) fn decode(lines: u8, key: &Key) -> Option<Named>
     let [first, number, share, back, rotation, flips, rest @ ..] = key.as_slice() else {
         return None;
     };
-    if lines > 4
+    if lines > MOST_MAPPED
         || lines > rest.len()
-        || usize::from(*share) + rest.len() != 7 + lines
+        || usize::from(*share) + rest.len() != MOST_LATER + lines
         || *back > 1
     {
         return None;

@@ -3,14 +3,20 @@ ghost use Rattle.std.specs.Prelude.{◌≡◌, ◌∷◌};
 ghost use Rattle.fixed_list.specs.Lists.{contents};
 
 use super::posed::Pose;
-use super::template::MOST_GATES;
+use super::template::{MOST_GATES, MOST_LINES};
 use fixed_list::FixedList;
 
 // How many numbers stand before a key's line map.
 pub(crate) const BEFORE_MAP: usize = 6;
 
+// How many lines a table has at most.
+pub(crate) const MOST_MAPPED: usize = MOST_LINES as usize;
+
+// How many places an occurrence has at most beside the first.
+pub(crate) const MOST_LATER: usize = MOST_GATES - 1;
+
 // The lines that a turned template's lines become, from its line 0 on.
-pub(crate) type Table = FixedList<u8, 4>;
+pub(crate) type Table = FixedList<u8, MOST_MAPPED>;
 
 // The distances of places from the first, which is at 0.
 pub(crate) type Distances = FixedList<usize, MOST_GATES>;
@@ -22,7 +28,7 @@ pub(crate) struct Named {
     pub(crate) number: usize,
     pub(crate) pose: Pose,
     pub(crate) table: Table,
-    pub(crate) later: FixedList<usize, 7>,
+    pub(crate) later: FixedList<usize, MOST_LATER>,
 }
 
 impl Named {
