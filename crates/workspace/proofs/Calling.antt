@@ -1,8 +1,8 @@
 -- What the calls that change a workspace come to, by what they do to its store and its shelf.
-use Rattle.std.proofs.Common.{◌≡◌, ℕ, suc, ◌<◌, ◌≤◌, ◌⊎◌, inl, inr, Bool, true, false, cond, ltb, List, [], ◌∷◌, ◌++◌, length, take, drop, is_some, slice_get, None, Ok, Err, Option, Result, refl, ap, sym, subst, ◌∙◌, ap₂, arith}
-use Rattle.std.specs.List.{insert, remove}
+use Rattle.std.proofs.Common.{◌≡◌, ℕ, suc, ◌<◌, ◌≤◌, ◌⊎◌, inl, inr, Bool, true, false, cond, ltb, List, [], ◌∷◌, ◌++◌, length, take, drop, is_some, slice_get, Ok, Err, Option, Result, refl, ap, sym, subst, ◌∙◌, arith}
+use Rattle.std.specs.List.{remove}
 use Rattle.std.proofs.ByRecursion.{All-append, All-take, All-drop}
-use Rattle.std.proofs.lemmas.List.{take_all, drop_all}
+use Rattle.std.proofs.lemmas.List.Edits.{insert_end}
 use Rattle.std.proofs.lemmas.Bool.{cases_lt, le-leb, le-ltb, lt-ltb}
 use Rattle.std.proofs.lemmas.Option.{slice_get-get_or, slice_get_past}
 use Rattle.gates.specs.declared.gate.Gate.{Gate}
@@ -15,15 +15,10 @@ use Rattle.stores.specs.Stores.{StoreMeaning, with_gates, insert_outcome}
 use Rattle.stores.specs.Stores as stores
 use Rattle.stores.proofs.Outcomes as stores-outcomes
 use Rattle.stores.proofs.StoresTheorem.{store_laws_lem}
-use Rattle.workspace.specs.Templates.{TemplateMeaning, MeetsRules}
-use Rattle.workspace.specs.TemplateTests.{template_test}
+use Rattle.workspace.specs.Templates.{MeetsRules}
 use Rattle.workspace.specs.declared.refusal.TemplateRefusal.TheVariants.{NoSuchEntry}
 use Rattle.workspace.specs.Promises.{Performed}
-use Rattle.workspace.specs.Conditions.{Condition, no_entry, EntryMeaning, Sound, entry, condition, answer, after, provided, shelved, append_outcome, shelve_outcome, withdraw_outcome, most_entries}
-
--- a gate put behind the last
-pub inserted_last : {X : Type 0} (xs : List X) (x : X) → insert xs (length xs) x ≡ xs ++ x ∷ []
-inserted_last {X} xs x = ap₂ (λ (u v : List X). u ++ x ∷ v) (take_all (length xs) xs (omega arith)) (drop_all (length xs) xs (omega arith))
+use Rattle.workspace.specs.Conditions.{Condition, no_entry, EntryMeaning, Sound, condition, answer, after, provided, append_outcome, withdraw_outcome}
 
 pub provided_true : {X E : Type 0} (b : Bool) (e : E) (r : Result X E) → b ≡ true → provided b e r ≡ r
 provided_true b e r h = ap (λ (x : Bool). provided x e r) h
@@ -43,7 +38,7 @@ module _ (k : KindMeaning) (m : StoreMeaning) (entries : List EntryMeaning) (g :
   at_end : insert_outcome k m (length m.gates) g ≡ asked (k.form m.lines g) (ltb (length m.gates) m.capacity) (with_gates m (m.gates ++ g ∷ []))
   at_end =
       stores-outcomes.provided_true _ _ _ (le-leb (length m.gates) (length m.gates) (omega arith))
-      ∙ ap (λ (gates : List Gate). asked (k.form m.lines g) (ltb (length m.gates) m.capacity) (with_gates m gates)) (inserted_last m.gates g)
+      ∙ ap (λ (gates : List Gate). asked (k.form m.lines g) (ltb (length m.gates) m.capacity) (with_gates m gates)) (insert_end m.gates g)
 
   -- a gate put at the end, by what the store answers and how it is left
   pub appended : KindLaws k → (given : Result (Unit {0}) StoreRefusal) (now : StoreMeaning)
@@ -61,14 +56,6 @@ module _ (k : KindMeaning) (m : StoreMeaning) (entries : List EntryMeaning) (g :
       }
 
 module _ (k : KindMeaning) (m : StoreMeaning) (entries : List EntryMeaning) where
-  pub shelve_ok : (t : TemplateMeaning) → template_test k t ≡ None → length entries < most_entries
-      → shelve_outcome k (condition m entries) t ≡ Ok (tt, condition m (entries ++ entry t 0 ∷ []))
-  shelve_ok t accepted room =
-      ap (shelved (condition m entries) t) accepted ∙ provided_true _ _ _ (lt-ltb (length entries) most_entries room)
-
-  pub shelve_sound : (t : TemplateMeaning) → MeetsRules k t → Sound k (condition m entries) → Sound k (condition m (entries ++ entry t 0 ∷ []))
-  shelve_sound t meets s = record { gates = s.gates; templates = All-append (λ e. MeetsRules k e.template) entries (entry t 0 ∷ []) s.templates (meets, tt) }
-
   pub withdraw_sound : (number : ℕ) → Sound k (condition m entries) → Sound k (condition m (remove entries number))
   withdraw_sound number s =
       let P = λ (e : EntryMeaning). MeetsRules k e.template in

@@ -24,6 +24,11 @@ same_gate_true g h e =
 pub same_gate_self : (g : Gate) → same_gate g g ≡ true
 same_gate_self g = and_from _ _ (eq-eqb g.a g.a refl) (and_from _ _ (eq-eqb g.b g.b refl) (and_from _ _ (eq-eqb g.positive g.positive refl) (eq-eqb g.negative g.negative refl)))
 
+-- a direction is read as it is named
+pub direction : (b : Bool) → eqb (cond b 1 0) 1 ≡ b
+direction true = refl
+direction false = refl
+
 module _ {X : Type 0} (same : X → X → Bool) where
   pub same_true : ((x y : X) → same x y ≡ true → x ≡ y) → (xs ys : List X) → same_list same xs ys ≡ true → xs ≡ ys
   same_true h [] [] e = refl
@@ -111,10 +116,6 @@ module _ (k : KindMeaning) (n : ℕ) (gates : List Gate) (shelf : List EntryMean
   back_to : (p q : ℕ) (later : List ℕ) → p ≤ q → Rising q later → map (λ d. p + d) (map (λ x. x - p) later) ≡ later
   back_to p q [] le h = refl
   back_to p q (x ∷ later) le h = ap₂ ◌∷◌ (let e : p + (x - p) ≡ x = omega (arith, h.0) in e) (back_to p (suc x) later (omega (arith, h.0)) h.1)
-
-  direction : (b : Bool) → eqb (cond b 1 0) 1 ≡ b
-  direction true = refl
-  direction false = refl
 
   occurrence : ℕ → ℕ → Bool → ℕ → ℕ → List ℕ → List ℕ → Occurrence
   occurrence p t b r f table later = record { first = p; number = t; turn = record { back = b; rotation = r; flips = f; table = table }; later = later }

@@ -1,6 +1,7 @@
 -- The test of a turn, step by step.
 use Rattle.std.proofs.Common.{◌≡◌, ℕ, zero, suc, ◌+◌, ◌-◌, Bool, true, false, not, ◌&&◌, List, [], ◌∷◌, ◌++◌, map, reverse, length, get_or, take, drop, sym, refl, ap, ◌∙◌, ap₂, arith}
 use mathlib.Core.List.{reverse-cons}
+use Rattle.std.proofs.Math.Bool.{and_assoc}
 use Rattle.std.proofs.lemmas.List.{at_drop_all, at_drop_more, take_rest}
 use Rattle.std.specs.List.{list_all, enumerate_from}
 use Rattle.gates.specs.declared.gate.Gate.{Gate}
@@ -16,11 +17,7 @@ pass_map test f (x ∷ xs) = ap (λ (b : Bool). test (f x) && b) (pass_map test 
 
 pass_append : {X : Type 0} (test : X → Bool) (xs ys : List X) → all_pass test (xs ++ ys) ≡ (all_pass test xs && all_pass test ys)
 pass_append test [] ys = refl
-pass_append test (x ∷ xs) ys = ap (λ (b : Bool). test x && b) (pass_append test xs ys) ∙ assoc (test x) (all_pass test xs) (all_pass test ys)
-  where
-    assoc : (a b c : Bool) → (a && (b && c)) ≡ ((a && b) && c)
-    assoc true b c = refl
-    assoc false b c = refl
+pass_append test (x ∷ xs) ys = ap (λ (b : Bool). test x && b) (pass_append test xs ys) ∙ sym (and_assoc (test x) (all_pass test xs) (all_pass test ys))
 
 pass_reverse : {X : Type 0} (test : X → Bool) (xs : List X) → all_pass test (reverse xs) ≡ all_pass test xs
 pass_reverse test [] = refl

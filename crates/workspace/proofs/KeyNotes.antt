@@ -1,5 +1,5 @@
 -- Notes fit the occurrences whose keys begin with what they were made for, and what comes next is among what they leave.
-use Rattle.std.proofs.Common.{◌≡◌, ℕ, zero, suc, ◌+◌, ◌-◌, ◌<◌, ◌≤◌, Bool, true, false, cond, not, ◌&&◌, ◌||◌, eqb, ltb, ◌⊎◌, List, [], ◌∷◌, ◌++◌, map, length, get_or, take, drop, sym, refl, ap, ◌∙◌, subst, inl, inr, arith}
+use Rattle.std.proofs.Common.{◌≡◌, ℕ, zero, suc, ◌+◌, ◌-◌, ◌<◌, ◌≤◌, Bool, true, false, not, ◌&&◌, ◌||◌, eqb, ltb, ◌⊎◌, List, [], ◌∷◌, ◌++◌, map, length, get_or, take, drop, sym, refl, ap, ◌∙◌, subst, inl, inr, arith}
 use Rattle.std.specs.List.{AllZip}
 use Rattle.std.proofs.ByRecursion.{All-get_or}
 use Rattle.std.proofs.Math.Bool.{or-false}
@@ -23,6 +23,7 @@ use Rattle.workspace.specs.Matching.{frame_at, posed}
 use Rattle.workspace.specs.Notes.{NoteFits, Narrows, can_stand, Noted, blank_image, gate_of_lem, image_at, members_in, possible, open_reach}
 use Rattle.workspace.specs.Prefixes.{Begun}
 use Rattle.workspace.specs.Starts.{IsSet, movable}
+use Rattle.workspace.proofs.DecidingOccurrences.{direction}
 use Rattle.workspace.proofs.Blocking.{next_eligible}
 use Rattle.workspace.proofs.DecidingTurns.{decides_has}
 use Rattle.workspace.proofs.Frames.{distance, distance_near, distance_rises}
@@ -124,9 +125,6 @@ module _ (k : KindMeaning) (c : Condition) (sound : Sound k c) (key prefix : Lis
             ∙ ap (λ (xs : List ℕ). has_number_lem (0 ∷ xs) d) (sym (drop_all (6 + e.lines) key (omega arith)));
       }
     where
-      direction : (d : Bool) → eqb (cond d 1 0) 1 ≡ d
-      direction true = refl
-      direction false = refl
 
       later : (j : ℕ) → suc j < length (places o) → bit 18446744073709551614 (distance o (suc j)) ≡ true
       later j l =

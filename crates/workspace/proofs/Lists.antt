@@ -1,9 +1,10 @@
 -- Lists in arrays that are filled item by item.
-use Rattle.std.proofs.Common.{◌≡◌, ℕ, ◌+◌, ◌<◌, Bool, cond, List, [], ◌∷◌, ◌++◌, map, length, get_or, take, sym, refl, ap, ◌∙◌, ap₂, arith}
+use Rattle.std.proofs.Common.{◌≡◌, ℕ, ◌+◌, ◌<◌, Bool, cond, List, [], ◌∷◌, ◌++◌, map, length, get_or, take, sym, ap, ◌∙◌, ap₂, arith}
 use Rattle.std.specs.List.{AllZip}
 use Rattle.std.proofs.lemmas.List.{map-id, take_more, length-take}
 use Rattle.std.proofs.lemmas.Bool.{lt-ltb}
 use Rattle.fixed_list.specs.Lists.{pushed}
+use Rattle.workspace.proofs.Images.{zip_kept}
 
 module _ {T : Type 0} (most : ℕ) where
   pub pushed_room : (xs : List T) (x : T) → length xs < most → pushed most xs x ≡ xs ++ x ∷ []
@@ -14,13 +15,6 @@ module _ {T : Type 0} (most : ℕ) where
   pushed_next xs ys i x d lt room is before =
       pushed_room xs x (omega (arith, ap length before, length-take i ys)) ∙ ap₂ (λ front y. front ++ y ∷ []) before is ∙ sym (take_more ys i d lt)
 
--- a list turned item by item, where h of what an item is turned into is f of the item
-pub mapped : {A B C : Type 0} (R : A → B → Type 0) (f : A → C) (h : B → C) → ((x : A) (y : B) → R x y → h y ≡ f x) → (xs : List A) (ys : List B) → AllZip R xs ys → map h ys ≡ map f xs
-mapped R f h each [] [] all = refl
-mapped R f h each [] (y ∷ ys) all = absurd all
-mapped R f h each (x ∷ xs) [] all = absurd all
-mapped R f h each (x ∷ xs) (y ∷ ys) all = ap₂ ◌∷◌ (each x y all.0) (mapped R f h each xs ys all.1)
-
--- the same, of what the items are turned into
+-- a list turned item by item
 pub turned : {A B : Type 0} (R : A → B → Type 0) (f : A → B) → ((x : A) (y : B) → R x y → y ≡ f x) → (xs : List A) (ys : List B) → AllZip R xs ys → ys ≡ map f xs
-turned R f each xs ys all = sym (map-id ys) ∙ mapped R f (λ y. y) each xs ys all
+turned R f each xs ys all = sym (map-id ys) ∙ zip_kept R f (λ y. y) each xs ys all

@@ -8,6 +8,7 @@ use Rattle.gates.specs.declared.gate.Gate.{Gate}
 use Rattle.gates.specs.Kinds.{KindMeaning, KindLaws, Formed}
 use Rattle.gates.specs.Cascades.{Restores, picked, rotated, flipped_or, Flippable}
 use Rattle.gates.proofs.Runs.{all_with, all_reverse, backward_restores, swapped, flipped_or_formed, flipped_restores, renamed_restores}
+use Rattle.workspace.proofs.Poses.{placed_long}
 use Rattle.workspace.specs.Templates.{TemplateMeaning, size}
 use Rattle.workspace.specs.Turns.{Placed, on_gate, placed_from, placed, kept, Turn, IsTurn, directed, turned}
 
@@ -61,10 +62,6 @@ all_placed : (P : Gate → Type 0) (p : ℕ) (gates : List Gate) → AllByRecurs
 all_placed P p [] h = tt
 all_placed P p (g ∷ gates) h = (h.0, all_placed P (suc p) gates h.1)
 
-length_placed : (p : ℕ) (gates : List Gate) → length (placed_from p gates) ≡ length gates
-length_placed p [] = refl
-length_placed p (g ∷ gates) = ap suc (length_placed (suc p) gates)
-
 length_directed : (k : KindMeaning) (back : Bool) (xs : List Placed) → length (directed k back xs) ≡ length xs
 length_directed k true xs = simp (length-map, length-reverse)
 length_directed k false xs = refl
@@ -73,7 +70,7 @@ pub length_turned : (k : KindMeaning) (e : TemplateMeaning) (t : Turn) → lengt
 length_turned k e t =
     let xs = directed k t.back (placed e.gates) in
     let r = t.rotation in
-    simp (length-map, length-append) (omega (arith, length-append (take r xs) (drop r xs), ap length (take-append-drop r xs), length_directed k t.back (placed e.gates), length_placed 0 e.gates))
+    simp (length-map, length-append) (omega (arith, length-append (take r xs) (drop r xs), ap length (take-append-drop r xs), length_directed k t.back (placed e.gates), placed_long 0 e.gates))
 
 all_rotated : {X : Type 0} (P : X → Type 0) (r : ℕ) (xs : List X) → AllByRecursion P xs → AllByRecursion P (rotated r xs)
 all_rotated P r xs h = All-append P (drop r xs) (take r xs) (All-drop P r xs h) (All-take P r xs h)

@@ -18,7 +18,7 @@ use Rattle.workspace.specs.Occurrences.{Occurrence, OccursAs, places, key_of, te
 use Rattle.workspace.specs.Plans.{Planned}
 use Rattle.workspace.specs.Posing.{placed_of}
 use Rattle.workspace.proofs.Extends.{frame_places}
-use Rattle.workspace.proofs.ReadKeys.{spelled_key, readable_key}
+use Rattle.workspace.proofs.ReadKeys.{some_is, spelled_key, readable_key}
 
 -- the template e of entry i, which has l lines, is that of the key
 module _ (k : KindMeaning) (c : Condition) (key : List ℕ) (sound : Sound k c) (there : OccursIn k c key) (i : ℕ) (second : i ≡ get_or key 1 0)
@@ -43,10 +43,7 @@ module _ (k : KindMeaning) (c : Condition) (key : List ℕ) (sound : Sound k c) 
 
   module _ (named : Named) (is : named_of (Some named) ≡ cond (readable l key) (Some (spelled l key)) None) where
     same : occurrence_of named ≡ o
-    same = some_is (read (Some named) is)
-      where
-        some_is : {x y : Occurrence} → ◌≡◌ {A = Option Occurrence} (Some x) (Some y) → x ≡ y
-        some_is q = cc
+    same = some_is _ _ (read (Some named) is)
 
     -- the rules, of the occurrence that was read
     rules : OccursAs k c.store.lines c.store.gates c.shelf (occurrence_of named)
@@ -80,11 +77,8 @@ module _ (k : KindMeaning) (c : Condition) (key : List ℕ) (sound : Sound k c) 
           posed_none (Err refusal) e = refl
 
       pub planned : (p : FixedList Member 8) → result_ok r ≡ Some p → Planned k c key record { named = named; extended = p }
-      planned p some = record { named = there.named ∙ ap key_of (sym same); rules = rules; extended = some_is (sym (posed_some r some) ∙ made) }
+      planned p some = record { named = there.named ∙ ap key_of (sym same); rules = rules; extended = some_is _ _ (sym (posed_some r some) ∙ made) }
         where
           posed_some : (r : Result (FixedList Member 8) NoGroup) → result_ok r ≡ Some p → posed_of r ≡ Some (placed_of (contents p))
           posed_some (Ok q) e = cc
           posed_some (Err refusal) e = absurd (let z : ◌≡◌ {A = ℕ} 0 1 = cc in omega arith)
-
-          some_is : {x y : List Placed} → ◌≡◌ {A = Option (List Placed)} (Some x) (Some y) → x ≡ y
-          some_is q = cc

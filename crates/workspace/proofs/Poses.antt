@@ -22,7 +22,7 @@ no_member = at_position 0 no_gate
 abbrev pub no_held : Member
 no_held = record { position = 0; gate = no_gate }
 
-placed_long : (p : ℕ) (gates : List Gate) → length (placed_from p gates) ≡ length gates
+pub placed_long : (p : ℕ) (gates : List Gate) → length (placed_from p gates) ≡ length gates
 placed_long p [] = refl
 placed_long p (g ∷ gates) = ap suc (placed_long (suc p) gates)
 

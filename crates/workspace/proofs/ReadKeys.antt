@@ -10,7 +10,7 @@ use Rattle.workspace.specs.Occurrences.{Occurrence, OccursAs, places, key_of, te
 use Rattle.workspace.proofs.DecidingOccurrences.{named_back, all_passes}
 use Rattle.workspace.proofs.Keying.{key_long, template_meets}
 
-some_is : {X : Type 0} (x y : X) → ◌≡◌ {A = Option X} (Some x) (Some y) → x ≡ y
+pub some_is : {X : Type 0} (x y : X) → ◌≡◌ {A = Option X} (Some x) (Some y) → x ≡ y
 some_is x y e = cc
 
 module _ (k : KindMeaning) (c : Condition) (o : Occurrence) (is : OccursAs k c.store.lines c.store.gates c.shelf o) where

@@ -1,19 +1,21 @@
 -- One step more in a loop over groups, gates or states.
-use Rattle.std.proofs.Common.{◌≡◌, ℕ, suc, ◌+◌, ◌-◌, ◌^◌, ◌<◌, ◌≤◌, Bool, true, false, cond, eqb, not, ◌&&◌, ◌||◌, ◌⊎◌, List, [], ◌∷◌, length, get_or, drop, sym, refl, ap, ◌∙◌, ap₂, inl, inr, arith}
+use Rattle.std.proofs.Common.{◌≡◌, ℕ, suc, ◌+◌, ◌-◌, ◌^◌, ◌<◌, ◌≤◌, Bool, true, false, cond, eqb, not, ◌&&◌, ◌||◌, List, [], ◌∷◌, length, get_or, drop, sym, refl, ap, ◌∙◌, ap₂, arith}
 use mathlib.Core.Path.{fun_ext}
 use lib.Bits.{bit_or}
+use Rattle.std.proofs.Math.Bool.{or_assoc}
 use Rattle.std.proofs.lemmas.Nat.{or_lt}
 use Rattle.std.proofs.lemmas.List.{at_drop_more, at_drop_all}
-use Rattle.std.proofs.lemmas.Bool.{cases_order, both_ways, eq-eqb, eqb-true}
+use Rattle.std.proofs.lemmas.Bool.{both_ways, eq-eqb, eqb-true}
 use Rattle.gates.specs.declared.gate.Gate.{Gate}
 use Rattle.gates.specs.Lines.{State, width, bit, where_below, every_below}
 use Rattle.gates.specs.ControlSets.{iff_same}
 use Rattle.gates.specs.Kinds.{KindMeaning}
 use Rattle.gates.specs.Cascades.{run, picked}
-use Rattle.gates.specs.Members.{bit_none, set_ext, bit_where, where_lt, every_at, every_of}
+use Rattle.gates.specs.Members.{bit_none, set_ext, bit_where, where_lt, every_at}
 use Rattle.gates.proofs.Masks.{bit-bit_or, bit_not}
 use Rattle.workspace.specs.Templates.{TemplateMeaning, size, in_selected, outside_selected, unselected}
-use Rattle.workspace.specs.TemplateTests.{agree, all_pass, restores_test, whole_test}
+use Rattle.workspace.specs.TemplateTests.{agree, restores_test, whole_test}
+use Rattle.workspace.proofs.WithoutPlaces.{picked_true}
 use Rattle.workspace.proofs.Extending.{selected_none}
 use Rattle.workspace.proofs.Deciding.{agree_of, agree_at}
 
@@ -72,10 +74,6 @@ module _ (groups : List ℕ) (selection place found : ℕ) (lt : place < length 
         ∙ ap (λ (b : Bool). bit found p || ((b && bit (get_or groups place 0) p) || rest p)) e
         ∙ step p;
   }
-    where
-      or_assoc : (x y z : Bool) → ((x || y) || z) ≡ (x || (y || z))
-      or_assoc true y z = refl
-      or_assoc false y z = refl
 
   pub found_skip : false ≡ bit selection place → Found groups selection (place + 1) found
   unfolding rest
@@ -131,19 +129,7 @@ pub reached_all : (k : KindMeaning) (gates : List Gate) (chosen state position r
 reached_all k gates chosen state position reached end at =
     sym (at_drop_all (λ xs. run k (picked (λ j. bit chosen (position + j)) xs) (bit reached)) gates position end) ∙ at.is
 
--- numbers below i + 1 pass where those below i and i itself do; one that does not fails all
-pub every_none : (P : ℕ → Bool) → every_below 0 P ≡ true
-unfolding every_below
-every_none P = refl
-
-pub every_more : (i : ℕ) (P : ℕ → Bool) → every_below i P ≡ true → P i ≡ true → every_below (i + 1) P ≡ true
-every_more i P before now = every_of (i + 1) P (λ j lt. at j (cases_order j i) lt)
-  where
-    at : (j : ℕ) → (j ≡ i) ⊎ ((j < i) ⊎ (i < j)) → j < i + 1 → P j ≡ true
-    at j (inl e) lt = ap P e ∙ now
-    at j (inr (inl below)) lt = every_at i P before j below
-    at j (inr (inr above)) lt = absurd (let z : ⊥ = omega arith in z)
-
+-- one number that does not pass fails all
 pub every_fails : (n i : ℕ) (P : ℕ → Bool) → i < n → P i ≡ false → every_below n P ≡ false
 every_fails n i P lt e = at (every_below n P) refl
   where
@@ -157,14 +143,6 @@ agree_tested r x s lr lx is =
     iff_same _ _ (λ same. agree_of s (bit x) (sym is ∙ ap bit (eqb-true r x same)))
     (λ agreed. eq-eqb r x (set_ext width r x lr lx (λ i lt. ap (λ (u : State). u i) is ∙ agree_at s (bit x) agreed i lt)))
 
--- whether all elements from place i on pass
-module _ {X : Type 0} (test : X → Bool) (xs : List X) (i : ℕ) (d : X) (lt : i < length xs) where
-  pub pass_more : true ≡ test (get_or xs i d) → all_pass test (drop (i + 1) xs) ≡ all_pass test (drop i xs)
-  pass_more e = ap (λ (b : Bool). b && all_pass test (drop (i + 1) xs)) e ∙ sym (at_drop_more (all_pass test) xs i d lt)
-
-  pub pass_fails : false ≡ test (get_or xs i d) → false ≡ all_pass test (drop i xs)
-  pass_fails e = ap (λ (b : Bool). b && all_pass test (drop (i + 1) xs)) e ∙ sym (at_drop_more (all_pass test) xs i d lt)
-
 -- whether the chosen gates restore the state that a number stands for
 abbrev pub restored : KindMeaning → List Gate → ℕ → ℕ → Bool
 restored k gates chosen x = agree (run k (picked (bit chosen) gates) (bit x)) (bit x)
@@ -174,10 +152,6 @@ picked_same : (c d : ℕ → Bool) (gates : List Gate) → ((i : ℕ) → i < le
 picked_same c d [] h = refl
 picked_same c d (g ∷ gates) h =
     ap₂ (λ (b : Bool) (r : List Gate). cond b (g ∷ r) r) (h 0 (omega arith)) (picked_same (λ i. c (suc i)) (λ i. d (suc i)) gates (λ i lt. h (suc i) (omega arith)))
-
-picked_whole : (gates : List Gate) → picked (λ _. true) gates ≡ gates
-picked_whole [] = refl
-picked_whole (g ∷ gates) = ap (λ (r : List Gate). g ∷ r) (picked_whole gates)
 
 -- whether, for one selection, the gates in none of the selected groups restore the states
 abbrev pub part_test : KindMeaning → TemplateMeaning → ℕ → Bool
@@ -194,7 +168,7 @@ part_tested k t m chosen answer few is tried =
 -- with none selected, these are all gates
 pub part_whole : (k : KindMeaning) (t : TemplateMeaning) → part_test k t 0 ≡ whole_test k t
 part_whole k t =
-    ap (restores_test k t.lines) (picked_same (outside_selected (bit 0) t.groups) (λ _. true) t.gates (λ i lt. ap not (none i)) ∙ picked_whole t.gates)
+    ap (restores_test k t.lines) (picked_same (outside_selected (bit 0) t.groups) (λ _. true) t.gates (λ i lt. ap not (none i)) ∙ picked_true t.gates)
   where
     none : (p : ℕ) → in_selected (bit 0) t.groups p ≡ false
     none p = ap (λ (c : ℕ → Bool). in_selected c t.groups p) (fun_ext bit_none) ∙ selected_none t.groups p

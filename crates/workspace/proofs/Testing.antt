@@ -3,6 +3,7 @@ use Rattle.std.proofs.Common.{◌≡◌, ℕ, suc, ◌+◌, ◌-◌, ◌*◌, �
 use Rattle.std.specs.List.{AllByRecursion}
 use mathlib.Core.Path.{fun_ext}
 use Rattle.std.proofs.lemmas.List.{length-map, length-take, length-drop}
+use Rattle.std.proofs.Math.Bool.{and_assoc}
 use Rattle.std.proofs.lemmas.Bool.{cases_lt, cases_eq, lt-ltb, le-ltb, le-leb, lt-leb, ltb-true, eq-eqb, ne_eqb, and_from, and_left, and_right, and_parts}
 use Rattle.gates.specs.declared.gate.Gate.{Gate}
 use Rattle.gates.specs.Kinds.{KindMeaning}
@@ -61,12 +62,8 @@ module _ (gates : List Gate) (p count : ℕ) (long : count ≡ min 32 (length ga
 
   places_in : (ds : List ℕ) → (all_pass (λ q. ltb q (length gates)) (p ∷ map (λ d. p + d) ds) && all_pass (λ q. leb q (p + 31)) (map (λ d. p + d) ds)) ≡ (ltb 0 count && all_pass (λ d. ltb d count) ds)
   places_in ds =
-      assoc (ltb p (length gates)) (all_pass (λ q. ltb q (length gates)) (map (λ d. p + d) ds)) (all_pass (λ q. leb q (p + 31)) (map (λ d. p + d) ds))
+      and_assoc (ltb p (length gates)) (all_pass (λ q. ltb q (length gates)) (map (λ d. p + d) ds)) (all_pass (λ q. leb q (p + 31)) (map (λ d. p + d) ds))
       ∙ ap₂ ◌&&◌ (sym first_in) (sym (all_in ds))
-    where
-      assoc : (a b c : Bool) → ((a && b) && c) ≡ (a && (b && c))
-      assoc true b c = refl
-      assoc false b c = refl
 
 -- places rise where their distances do
 rising_at : (p q : ℕ) (ds : List ℕ) → rising_test (suc (p + q)) (map (λ d. p + d) ds) ≡ rising_test (suc q) ds

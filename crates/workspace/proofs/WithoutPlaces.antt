@@ -12,7 +12,7 @@ use Rattle.workspace.specs.Occurrences.{Rising}
 use Rattle.workspace.specs.Edits.{without}
 use Rattle.workspace.proofs.Occurring.{not_yet}
 
-picked_true : (gates : List Gate) → picked (λ _. true) gates ≡ gates
+pub picked_true : (gates : List Gate) → picked (λ _. true) gates ≡ gates
 picked_true [] = refl
 picked_true (g ∷ gates) = ap (λ (gs : List Gate). g ∷ gs) (picked_true gates)
 

@@ -10,7 +10,7 @@ abbrev pub occurrence_of : Named → Occurrence
 occurrence_of m = record {
   first = m.first;
   number = m.number;
-  turn = record { back = m.back; rotation = m.rotation; flips = m.flips; table = contents m.table };
+  turn = record { back = m.pose.back; rotation = m.pose.rotation; flips = m.pose.flips; table = contents m.table };
   later = map (λ d. m.first + d) (contents m.later);
 }
 

@@ -3,6 +3,7 @@ ghost use Rattle.std.specs.Prelude.{◌≡◌, ℕ, ◌<◌, length, take};
 ghost use Rattle.fixed_list.specs.Lists.{contents};
 ghost use Rattle.gates.specs.Lines.{bit};
 ghost use Rattle.workspace.specs.Choices.{places_test};
+ghost use Rattle.workspace.specs.Matching.{reach};
 ghost use Rattle.workspace.specs.OccurrenceTests.{rising_test, same_gate, same_list};
 ghost use Rattle.workspace.specs.Posing.{placed_of};
 ghost use Rattle.workspace.specs.Turns.{gates_of};
@@ -31,7 +32,7 @@ pub(crate) fn are_places_right(size: usize, reach: usize, distances: &Distances)
 
 // The distances as a set.
 pub(crate) fn find_chosen(distances: &[usize]) -> LineSet
-    ensures { (i : ℕ) → i < 32 → bit result i ≡ has_number_lem distances.now i }
+    ensures { (i : ℕ) → i < reach → bit result i ≡ has_number_lem distances.now i }
 {
     let mut chosen = 0;
     for distance in distances {

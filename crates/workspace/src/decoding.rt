@@ -6,14 +6,15 @@ ghost use Rattle.search.specs.Keys.{keyed};
 ghost use Rattle.workspace.specs.Naming.{named_of, readable, spelled};
 ghost use Rattle.workspace.specs.TemplateTests.{all_pass};
 
-use super::named::{Named, Table};
+use super::named::{MOST_LATER, MOST_MAPPED, Named, Table};
+use super::posed::Pose;
 use fixed_list::FixedList;
 use gates::LineSet;
 use search::Key;
 
 // The table that takes a template's lines to these; none where one is no line.
 fn read_table(lines: &[u16]) -> Option<Table>
-    requires { length lines.now ≤ 4 }
+    requires { length lines.now ≤ MOST_MAPPED }
     ensures { option_map contents result ≡ (if all_pass (λ x. nat_lt x 256) lines.now then Some lines.now else None) }
 {
     // A loop, since a number that is no line ends it.
@@ -25,8 +26,8 @@ fn read_table(lines: &[u16]) -> Option<Table>
 }
 
 // The numbers as distances.
-fn read_later(numbers: &[u16]) -> FixedList<usize, 7>
-    requires { length numbers.now ≤ 7 }
+fn read_later(numbers: &[u16]) -> FixedList<usize, MOST_LATER>
+    requires { length numbers.now ≤ MOST_LATER }
     ensures { contents result ≡ numbers.now }
 {
     FixedList::collected(numbers.iter().map(|number| usize::from(*number)), 0)
@@ -41,9 +42,9 @@ pub(crate) fn decode(lines: u8, key: &Key) -> Option<Named>
     let [first, number, share, back, rotation, flips, rest @ ..] = key.as_slice() else {
         return None;
     };
-    if lines > 4
+    if lines > MOST_MAPPED
         || lines > rest.len()
-        || usize::from(*share) + rest.len() != 7 + lines
+        || usize::from(*share) + rest.len() != MOST_LATER + lines
         || *back > 1
     {
         return None;
@@ -53,9 +54,11 @@ pub(crate) fn decode(lines: u8, key: &Key) -> Option<Named>
         first: usize::from(*first),
         number: usize::from(*number),
         // The direction is 0 or 1 in a key, by which it is ranked.
-        back: *back == 1,
-        rotation: usize::from(*rotation),
-        flips: LineSet::from(*flips),
+        pose: Pose {
+            back: *back == 1,
+            rotation: usize::from(*rotation),
+            flips: LineSet::from(*flips),
+        },
         table: read_table(map)?,
         later: read_later(later),
     })

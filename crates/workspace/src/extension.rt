@@ -22,7 +22,7 @@ fn turn_template<K: GateKind>(template: &Template, named: &Named) -> Posed
     ensures { placed_of (contents result) ≡ turned K.means (occurrence_of named.now).turn (placed (template_of template.now).gates) }
 {
     let table = named.table.as_slice();
-    let posed = pose::<K>(template, named.back, named.rotation, named.flips);
+    let posed = pose::<K>(template, named.pose);
     posed.map(
         Member::BLANK,
         |member| Member {

@@ -11,6 +11,7 @@ use super::line::Line;
 use super::named::BEFORE_MAP;
 use super::notes::{Image, Note};
 use super::occurs::is_occurrence;
+use super::posed::Pose;
 use super::start::{Start, start_at};
 use super::template::MOST_GATES;
 use super::{Holdings, Template, levels, noting};
@@ -90,9 +91,11 @@ impl<S: Store> Problem for Holdings<S> {
             None => *above,
             Some(0) => noting::posed_note::<S::Kind>(
                 template,
-                key.at(3) == 1,
-                usize::from(key.at(4)),
-                LineSet::from(key.at(5)),
+                Pose {
+                    back: key.at(3) == 1,
+                    rotation: usize::from(key.at(4)),
+                    flips: LineSet::from(key.at(5)),
+                },
             ),
             Some(behind) => {
                 let line = behind - 1;

@@ -8,29 +8,24 @@ ghost use Rattle.workspace.specs.Notes.{Narrows, can_stand, members_in, open_rea
 ghost use Rattle.workspace.specs.Proposals.{template_of};
 ghost use Rattle.workspace.specs.Starts.{IsSet};
 
-use super::Template;
 use super::line::Line;
 use super::notes::{Image, Note};
-use super::posing::pose;
+use super::posed::Pose;
 use super::start::Start;
-use gates::{GateKind, LineSet};
+use super::{Template, posing};
+use gates::GateKind;
 use search::candidates;
 
 // All distances but that of the first place itself.
 const LATER: u64 = !1;
 
 // The note of a template as it is posed: the first gate stands at the first place, the others anywhere behind it.
-pub(crate) fn posed_note<K: GateKind>(
-    template: &Template,
-    back: bool,
-    rotation: usize,
-    flips: LineSet,
-) -> Note
-    ensures poses { members_in result.images ≡ posed_list K.means (template_of template.now) back rotation flips }
+pub(crate) fn posed_note<K: GateKind>(template: &Template, pose: Pose) -> Note
+    ensures poses { members_in result.images ≡ posed_list K.means (template_of template.now) pose.back pose.rotation pose.flips }
     ensures reaches { map (λ m. m.reached) (contents result.images) ≡ take (length (contents result.images)) open_reach }
     ensures chooses { result.chosen ≡ 1 }
 {
-    let posed = pose::<K>(template, back, rotation, flips);
+    let posed = posing::pose::<K>(template, pose);
     let mut images = posed.map(
         Image::BLANK,
         |member| Image {

@@ -2,6 +2,7 @@
 ghost use Rattle.std.specs.Prelude.{◌≡◌, ◌<◌, ◌≤◌, List, length, slice_index};
 ghost use Rattle.std.specs.List.{AllByRecursion};
 ghost use Rattle.gates.specs.declared.gate.Gate.{Gate as GateMeaning};
+ghost use Rattle.gates.specs.Lines.{width};
 ghost use Rattle.search.specs.Keys.{keyed};
 ghost use Rattle.workspace.specs.Conditions.{EntryMeaning};
 ghost use Rattle.workspace.specs.Matching.{frame_at};
@@ -54,7 +55,7 @@ pub(crate) fn is_occurrence<K: GateKind>(
     key: &Key,
 ) -> bool
     ensures { (gates : List GateMeaning) → frame.now ≡ frame_at gates (slice_index (keyed key.now) 0)
-        → AllByRecursion (λ (e : EntryMeaning). MeetsRules K.means e.template) (entries_of shelf.now) → lines ≤ 32
+        → AllByRecursion (λ (e : EntryMeaning). MeetsRules K.means e.template) (entries_of shelf.now) → lines ≤ width
         → result ≡ occurs_test K.means lines gates (entries_of shelf.now) (keyed key.now) }
 {
     let Some(template) = shelf.template_at(usize::from(key.at(1))) else {

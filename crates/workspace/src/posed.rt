@@ -1,7 +1,15 @@
 // Templates posed: directed, rotated and flipped, still on their own lines.
 use super::template::MOST_GATES;
 use fixed_list::FixedList;
-use gates::Gate;
+use gates::{Gate, LineSet};
+
+// How a template is posed: whether backward, by how many gates its list is rotated after that, and which of its lines are flipped.
+#[derive(Clone, Copy)]
+pub(crate) struct Pose {
+    pub(crate) back: bool,
+    pub(crate) rotation: usize,
+    pub(crate) flips: LineSet,
+}
 
 // A gate with the position that it has in its template.
 #[derive(Clone, Copy)]

@@ -1,6 +1,7 @@
 // Sets of positions in a template.
 ghost use Rattle.std.specs.Prelude.{◌≡◌, ◌≤◌};
 ghost use Rattle.gates.specs.Lines.{bit, where_below, width};
+ghost use Rattle.workspace.specs.declared.template.TheConstants.{MOST_GATES};
 ghost use Rattle.workspace.specs.TemplateTests.{group_test};
 ghost use Rattle.workspace.specs.Templates.{outside_selected};
 
@@ -17,7 +18,7 @@ pub(super) fn has_position(set: PositionSet, position: usize) -> bool
 
 // Whether the set is a group of a template with so many gates: at least two positions, none beyond.
 pub(super) fn is_group(set: PositionSet, size: usize) -> bool
-    requires { size ≤ 8 }
+    requires { size ≤ MOST_GATES }
     ensures { result ≡ group_test size set }
 {
     set.count_ones() >= 2 && sets::is_below(set, size as u8)

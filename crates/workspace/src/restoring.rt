@@ -2,6 +2,7 @@
 ghost use Rattle.std.specs.Prelude.{◌≡◌, ◌≤◌};
 ghost use Rattle.gates.specs.Cascades.{picked, run};
 ghost use Rattle.gates.specs.Lines.{bit};
+ghost use Rattle.workspace.specs.declared.template.TheConstants.{MOST_LINES};
 ghost use Rattle.workspace.specs.TemplateTests.{agree, restores_test};
 
 use super::{PositionSet, positions};
@@ -30,7 +31,7 @@ fn is_restored<K: GateKind>(gates: &[Gate], chosen: PositionSet, state: LineSet)
 
 // Whether they restore each state of so many lines.
 pub(super) fn do_chosen_restore<K: GateKind>(gates: &[Gate], chosen: PositionSet, lines: u8) -> bool
-    requires { lines ≤ 4 }
+    requires { lines ≤ MOST_LINES }
     ensures { result ≡ restores_test K.means lines (picked (bit chosen) gates.now) }
 {
     (0..1u32 << lines).all(|state| is_restored::<K>(gates, chosen, state))

@@ -8,14 +8,15 @@ ghost use Rattle.workspace.specs.TurnTests.{distinct, table_test, turn_test};
 
 use super::Template;
 use super::named::Named;
+use super::posed::Pose;
 use super::posing::direct;
-use gates::{Gate, GateKind, LineSet, WIDTH, sets};
+use gates::{Gate, GateKind, WIDTH, sets};
 
 // Whether each gate, in its direction, has a flipped form.
-fn are_flippable<K: GateKind>(gates: &[Gate], back: bool, flips: LineSet) -> bool
-    ensures { result ≡ all_pass (λ x. is_some (K.means.flipped flips x.gate)) (directed K.means back (placed gates.now)) }
+fn are_flippable<K: GateKind>(gates: &[Gate], pose: Pose) -> bool
+    ensures { result ≡ all_pass (λ x. is_some (K.means.flipped pose.flips x.gate)) (directed K.means pose.back (placed gates.now)) }
 {
-    gates.iter().all(|gate| K::flipped(direct::<K>(*gate, back), flips).is_some())
+    gates.iter().all(|gate| K::flipped(direct::<K>(*gate, pose.back), pose.flips).is_some())
 }
 
 // Whether no line is in the table twice.
@@ -40,8 +41,8 @@ fn is_table(table: &[u8], from: u8, lines: u8) -> bool
 pub(crate) fn is_turn<K: GateKind>(lines: u8, template: &Template, named: &Named) -> bool
     ensures { result ≡ turn_test K.means lines (template_of template.now) (occurrence_of named.now).turn }
 {
-    named.rotation < template.size()
-        && sets::is_below(named.flips, template.lines())
-        && are_flippable::<K>(template.gates(), named.back, named.flips)
+    named.pose.rotation < template.size()
+        && sets::is_below(named.pose.flips, template.lines())
+        && are_flippable::<K>(template.gates(), named.pose)
         && is_table(named.table.as_slice(), template.lines(), lines)
 }

@@ -15,6 +15,6 @@ returns c =
     let long : 6 ≤ length xs = c.in-len6-up.len_at_least in
     let room : n ≤ length (drop 6 xs) = omega (arith, c.if-lines-rest.false, ap length rest) in
     let sum : get_or xs 2 0 + length (drop 6 xs) ≡ 7 + n = omega (arith, c.if-from-rest.false, c.from.ensures, ap length rest) in
-    decoded n xs long c.if-lines-gt4.false room sum c.if-back-gt1.false c.from-2.result c.from-3.result c.from-4.result c.from-5.result _ _ c.from-2.ensures c.from-3.ensures c.from-4.ensures c.from-5.ensures
+    decoded n xs long c.if-lines-gt-MOST_MAPPED.false room sum c.if-back-gt1.false c.from-2.result c.from-3.result c.from-4.result c.from-5.result _ _ c.from-2.ensures c.from-3.ensures c.from-4.ensures c.from-5.ensures
     (c.in_ok-read_table.ensures ∙ ap (λ (ms : List ℕ). cond (all_pass (λ x. ltb x 256) ms) (Some ms) None) front) (c.read_later.ensures ∙ back)
     ∙ ap₂ (λ lines key. cond (readable lines key) (Some (spelled lines key)) None) c.from-lines.ensures c.as_slice.ensures.is

@@ -7,5 +7,5 @@ use Rattle.workspace.proofs.posing.pose.Given as goal
 abbrev pub invariant-loop-position : goal.invariant-loop-position
 invariant-loop-position g l = record {
   long : length l.members ≡ 8;
-  front : placed_of (take l.position l.members) ≡ take l.position (each_posed g.K.GateKind.means l.gates l.back l.flips);
+  front : placed_of (take l.position l.members) ≡ take l.position (each_posed g.K.GateKind.means l.gates l.pose.back l.pose.flips);
 }

@@ -9,5 +9,5 @@ use Rattle.workspace.proofs.turning.are_flippable.Goals as goal
 pub returns : goal.returns
 returns g c =
     let k = g.K.GateKind.means in
-    all_from_yields_List (λ (x : Gate). is_some (k.flipped c.args.flips (directed_gate k c.args.back x))) _ _ _ c.all.ensures.ran (YieldsList-from_slice c.args.gates.now cc) (λ x b q k. search (rules, tests))
-    ∙ pass_directed k (λ x. is_some (k.flipped c.args.flips x)) c.args.back c.args.gates.now
+    all_from_yields_List (λ (x : Gate). is_some (k.flipped c.args.pose.flips (directed_gate k c.args.pose.back x))) _ _ _ c.all.ensures.ran (YieldsList-from_slice c.args.gates.now cc) (λ x b q k. search (rules, tests))
+    ∙ pass_directed k (λ x. is_some (k.flipped c.args.pose.flips x)) c.args.pose.back c.args.gates.now
