@@ -1,12 +1,11 @@
 -- A turned template extended line by line, and the chosen gates beside it.
-use Rattle.std.proofs.Common.{◌≡◌, ℕ, zero, suc, ◌+◌, ◌<◌, ◌≤◌, min, ◌⊎◌, List, [], ◌∷◌, ◌++◌, map, length, get_or, take, drop, Some, None, Ok, Err, Option, Result, sym, refl, ap, ◌∙◌, ap₂, inl, inr, arith}
+use Rattle.std.proofs.Common.{◌≡◌, ℕ, zero, suc, ◌+◌, ◌<◌, ◌≤◌, ◌⊎◌, List, [], ◌∷◌, map, length, get_or, drop, Some, None, Ok, Err, Option, Result, sym, refl, ap, ◌∙◌, ap₂, inl, inr, arith}
 use Rattle.std.specs.List.{AllByRecursion, zip}
 use Rattle.std.proofs.lemmas.Slice.Zip.{length-zip}
-use Rattle.std.proofs.lemmas.List.{get_or-take, get_or-drop, get_or-map, length-map, length-take, map_push, take_more}
+use Rattle.std.proofs.lemmas.List.{get_or-take, get_or-drop, length-map}
 use Rattle.std.proofs.lemmas.Bool.{cases_eq}
 use Rattle.std.specs.Result.{IsErr}
 use Rattle.fixed_list.specs.declared.fixed_list.FixedList.{FixedList}
-use Rattle.fixed_list.specs.Lists.{pushed}
 use Rattle.gates.specs.declared.gate.Gate.{Gate}
 use Rattle.gates.specs.declared.gate.Sign.{Sign}
 use Rattle.gates.specs.Kinds.{KindMeaning}
@@ -19,8 +18,7 @@ use Rattle.workspace.specs.Occurrences.Asked.{nothing, control_on, refused}
 use Rattle.workspace.specs.Matching.{frame_at}
 use Rattle.workspace.specs.Extensions.{added_of, answer_of, controlled_in, extended_by, posed_of}
 use Rattle.workspace.specs.Posing.{placed_of}
-use Rattle.workspace.proofs.Lists.{pushed_room}
-use Rattle.workspace.proofs.Poses.{no_gate, no_held, no_member}
+use Rattle.workspace.proofs.Poses.{no_gate}
 
 -- the chosen gates are those of the frame
 pub frame_places : (gates frame : List Gate) (first : ℕ) (ds : List ℕ) → frame ≡ frame_at gates first → AllByRecursion (λ q. q ≤ first + 31) (map (λ d. first + d) ds)
@@ -39,12 +37,6 @@ pub posed_refused : (r : Result (FixedList Member 8) NoGroup) → IsErr r → po
 posed_refused (Ok p) is = absurd (let z : ◌≡◌ {A = ℕ} 0 1 = cc in omega arith)
 posed_refused (Err refusal) is = refl
 
--- the positions beside the chosen gates
-pub beside_long : (xs : List Placed) (gs : List Gate) → length (beside xs gs) ≡ min (length xs) (length gs)
-beside_long [] gs = let e : 0 ≡ min 0 (length gs) = omega arith in e
-beside_long (x ∷ xs) [] = let e : 0 ≡ min (suc (length xs)) 0 = omega arith in e
-beside_long (x ∷ xs) (g ∷ gs) = let e : suc (length (beside xs gs)) ≡ min (suc (length xs)) (suc (length gs)) = omega (arith, beside_long xs gs) in e
-
 -- the gates put in the stead of the members' own, pair by pair
 abbrev pub standing_of : List Member → List Gate → List Member
 standing_of ms gs = map (λ (p : Member × Gate). record { position = p.0.position; gate = p.1 }) (zip ms gs)
@@ -56,30 +48,6 @@ pub beside_zip : (ms : List Member) (gs : List Gate) → placed_of (standing_of 
 beside_zip [] gs = refl
 beside_zip (m ∷ ms) [] = refl
 beside_zip (m ∷ ms) (g ∷ gs) = ap (λ (r : List Placed). at_position m.position g ∷ r) (beside_zip ms gs)
-
-beside_at : (xs : List Placed) (gs : List Gate) (i : ℕ) → i < length xs → i < length gs → get_or (beside xs gs) i no_member ≡ at_position (get_or xs i no_member).position (get_or gs i no_gate)
-beside_at [] gs i lx lg = absurd (let z : ⊥ = omega arith in z)
-beside_at (x ∷ xs) [] i lx lg = absurd (let z : ⊥ = omega arith in z)
-beside_at (x ∷ xs) (g ∷ gs) zero lx lg = refl
-beside_at (x ∷ xs) (g ∷ gs) (suc i) lx lg = beside_at xs gs i (omega arith) (omega arith)
-
--- one gate more
-pub beside_more : (members : List Member) (gs : List Gate) (held : List Member) (i : ℕ) (m : Member) (g : Gate) → i < length members → i < length gs → length members ≤ 8
-    → m ≡ get_or members i no_held → g ≡ get_or gs i no_gate → placed_of held ≡ take i (beside (placed_of members) gs)
-    → placed_of (pushed 8 held record { position = m.position; gate = g }) ≡ take (i + 1) (beside (placed_of members) gs)
-beside_more members gs held i m g lm lg few at is before =
-    let place = λ (x : Member). at_position x.position x.gate in
-    let new : Member = record { position = m.position; gate = g } in
-    let all = beside (placed_of members) gs in
-    let placed-long : length (placed_of members) ≡ length members = length-map members place in
-    let long : length all ≡ min (length members) (length gs) = beside_long (placed_of members) gs ∙ ap (λ (n : ℕ). min n (length gs)) placed-long in
-    let held-long : length held ≡ i = sym (length-map held place) ∙ ap length before ∙ omega (arith, length-take i all) in
-    let here : get_or all i no_member ≡ at_position (get_or members i no_held).position (get_or gs i no_gate) =
-    beside_at (placed_of members) gs i (omega arith) lg ∙ ap (λ (x : Placed). at_position x.position (get_or gs i no_gate)) (get_or-map place members i no_held no_member lm) in
-    ap placed_of (pushed_room 8 held new (omega arith))
-    ∙ map_push place held new
-    ∙ ap₂ (λ (front : List Placed) (x : Placed). front ++ x ∷ []) before (ap₂ (λ (x : Member) (h : Gate). at_position x.position h) at is ∙ sym here)
-    ∙ sym (take_more all i no_member (omega arith))
 
 module _ (k : KindMeaning) (groups : List ℕ) where
   -- the gates with the control that a line is answered, if any

@@ -125,7 +125,6 @@ module _ (k : KindMeaning) (c : Condition) (sound : Sound k c) (key prefix : Lis
             ∙ ap (λ (xs : List ℕ). has_number_lem (0 ∷ xs) d) (sym (drop_all (6 + e.lines) key (omega arith)));
       }
     where
-
       later : (j : ℕ) → suc j < length (places o) → bit 18446744073709551614 (distance o (suc j)) ≡ true
       later j l =
           let near = distance_near k c.store.lines c.store.gates c.shelf o b.rules (suc j) l in

@@ -19,9 +19,6 @@ no_gate = gate 0 0 0 0
 abbrev pub no_member : Placed
 no_member = at_position 0 no_gate
 
-abbrev pub no_held : Member
-no_held = record { position = 0; gate = no_gate }
-
 pub placed_long : (p : ℕ) (gates : List Gate) → length (placed_from p gates) ≡ length gates
 placed_long p [] = refl
 placed_long p (g ∷ gates) = ap suc (placed_long (suc p) gates)

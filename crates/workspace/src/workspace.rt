@@ -11,7 +11,7 @@ use search::Policy;
 use stores::{Store, StoreRefusal};
 
 // A cascade in a store, which templates on the shelf shorten; the policy decides which occurrence is replaced.
-// No model: what a store means is a member of a bound, which a model's value cannot cite.
+// No model: `into_parts` gives the store and the policy back themselves, so that its value would be all the fields again.
 #[derive(Drop)]
 pub struct Workspace<S, P> {
     pub(crate) holdings: Holdings<S>,
