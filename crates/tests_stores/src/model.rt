@@ -40,12 +40,8 @@ impl Model {
         requires can { I.can_next gates }
         requires ends { IsFinite (I.remaining gates) }
     {
-        let mut list = FixedList::new(JUNK);
-        for gate in gates {
-            let _ = list.push(gate);
-        }
         Model {
-            list,
+            list: FixedList::collected(gates, JUNK),
             capacity: self.capacity,
         }
     }
