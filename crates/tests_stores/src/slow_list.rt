@@ -49,12 +49,8 @@ impl SlowList {
         requires can { I.can_next gates }
         requires ends { IsFinite (I.remaining gates) }
     {
-        let mut list = FixedList::new(JUNK);
-        for gate in gates {
-            let _ = list.push(gate);
-        }
         SlowList {
-            list,
+            list: FixedList::collected(gates, JUNK),
             capacity: self.capacity,
         }
     }
