@@ -7,8 +7,7 @@ ghost use Rattle.search.specs.Prefixes.{FitsPrefix};
 
 use super::{KEY_SIZE, Key, Problem, Shown};
 
-// The first numbers of keys, and what was worked out for all keys that begin with them. All is lent: a key and a note that
-// lay in it would be moved once more for each prefix.
+// The first numbers of keys, and what was worked out for all keys that begin with them. All is lent: a note can be large.
 #[derive(Drop)]
 pub(crate) struct Prefix<'a, 'b, Q: Problem> {
     pub(crate) problem: &'a Q,
@@ -36,13 +35,6 @@ impl<'a, 'b, Q: Problem> Prefix<'a, 'b, Q> {
             note,
             key,
         }
-    }
-
-    // The key with one number more.
-    pub(crate) fn longer_key(&self, number: u16) -> Key
-        ensures { keyed result ≡ with_number (keyed self.now.key.now) number }
-    {
-        self.key.with(number)
     }
 
     // The note of a key with one number more.

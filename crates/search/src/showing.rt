@@ -64,7 +64,7 @@ impl<'a, P: Policy> Showing<'a, P> {
             return self.visit(prefix);
         }
         for number in Numbers::of(prefix.candidates()) {
-            let key = prefix.longer_key(number);
+            let key = prefix.key.with(number);
             let note = prefix.longer_note(&key);
             self.descend(&prefix.longer(&note, &key))?;
         }

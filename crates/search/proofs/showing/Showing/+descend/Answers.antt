@@ -22,7 +22,7 @@ next : (g : _) (t : _) (c : After-descend g t) → FitsPrefix g.Q.Problem c.args
     (stands g.P.Policy.kept flow c.descend.new.self)
 next g t c fits room flow is =
     let v = c.in-Some.number in
-    let put = c.longer_key-key.ensures in
+    let put = c.with-key.ensures in
     seen_with g.P.Policy.rule g.Q.Problem.view g.Q.Problem.test _ _ room _ _ _ (c.loop-number.invariant.seen fits room) _ _ (ap keyed c.longer.ensures.is ∙ put) _ c.longer.ensures.of _
     (ap (λ (f : ControlFlow (Unit {0}) (Unit {0})). stands g.P.Policy.kept f c.descend.new.self) (sym is) ∙ c.descend.ensures.shows (c.longer.ensures.fits fits room v put (c.longer_note-note.ensures fits room v put)))
 
