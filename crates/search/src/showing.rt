@@ -55,18 +55,18 @@ impl<'a, P: Policy> Showing<'a, P> {
     }
 
     // Shows the policy, in rank order, what occurs of the keys that begin with the prefix; breaks at a close.
-    pub(crate) fn descend<Q: Problem>(&mut self, prefix: &Prefix<Q>) -> ControlFlow<()>
+    pub(crate) fn descend<Q: Problem>(&mut self, prefix: Prefix<Q>) -> ControlFlow<()>
         ensures same { self.new.policy.ghost_name ≡ self.old.policy.ghost_name }
-        ensures shows { FitsPrefix Q.Problem prefix.now → stands P.kept result self.new
-            ≡ shown_under P.rule (Q.view prefix.now.problem.now) (Q.test prefix.now.problem.now) (keyed prefix.now.key.now) (stands P.kept (Continue tt) self.old) }
+        ensures shows { FitsPrefix Q.Problem prefix.entry → stands P.kept result self.new
+            ≡ shown_under P.rule (Q.view prefix.entry.problem.now) (Q.test prefix.entry.problem.now) (keyed prefix.entry.key.now) (stands P.kept (Continue tt) self.old) }
     {
         if prefix.is_last() {
-            return self.visit(prefix);
+            return self.visit(&prefix);
         }
         for number in Numbers::of(prefix.candidates()) {
             let key = prefix.key.with(number);
             let note = prefix.longer_note(&key);
-            self.descend(&prefix.longer(&note, &key))?;
+            self.descend(prefix.longer(&note, &key))?;
         }
         ControlFlow::Continue(())
     }
@@ -90,7 +90,7 @@ impl<'a, P: Policy> Showing<'a, P> {
             let start = problem.start(first);
             let note = problem.note(&start, &blank, &key);
             if self
-                .descend(&Prefix::first(problem, &start, &note, &key))
+                .descend(Prefix::first(problem, &start, &note, &key))
                 .is_break()
             {
                 return lowest;

@@ -5,7 +5,7 @@ use Rattle.search.proofs.Covered.{SeenOf}
 use Rattle.search.proofs.showing.Showing.+descend.Given as goal
 
 abbrev pub decreases-descend : goal.decreases-descend
-decreases-descend g l = key_size - length (keyed l.prefix.now.key.now)
+decreases-descend g l = key_size - length (keyed l.prefix.key.now)
 
 abbrev pub invariant-loop-number : goal.invariant-loop-number
 invariant-loop-number g l =
