@@ -11,7 +11,7 @@ use Rattle.search.specs.Policy.{Standing, standing}
 
 -- a step of the search may rely on the prefix
 abbrev pub FitsPrefix : {Q X Y : Type 0} → Ghosts Q X Y → Prefix Q X Y → Type 0
-FitsPrefix problem prefix = FitsAt problem.sound problem.started problem.noted prefix.problem.now prefix.key prefix.start.now prefix.note
+FitsPrefix problem prefix = FitsAt problem.sound problem.started problem.noted prefix.problem.now prefix.key.now prefix.start.now prefix.note.now
 
 -- where the policy stands; a break says that it closed
 abbrev pub stands : {P : Type 0} → (P → List ℕ) → ControlFlow (Unit {0}) (Unit {0}) → Showing P → Standing (List ℕ)

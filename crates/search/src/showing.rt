@@ -36,7 +36,7 @@ impl<'a, P: Policy> Showing<'a, P> {
     fn visit<Q: Problem>(&mut self, prefix: &Prefix<Q>) -> ControlFlow<()>
         ensures same { self.new.policy.ghost_name ≡ self.old.policy.ghost_name }
         ensures shows { FitsPrefix Q.Problem prefix.now → stands P.kept result self.new
-            ≡ scan P.rule (Q.view prefix.now.problem.now) (stands P.kept (Continue tt) self.old) (alone (Q.test prefix.now.problem.now) (keyed prefix.now.key)) }
+            ≡ scan P.rule (Q.view prefix.now.problem.now) (stands P.kept (Continue tt) self.old) (alone (Q.test prefix.now.problem.now) (keyed prefix.now.key.now)) }
     {
         let Some(shown) = prefix.shown() else {
             return ControlFlow::Continue(());
@@ -44,27 +44,29 @@ impl<'a, P: Policy> Showing<'a, P> {
         match self.policy.show(shown) {
             Reply::Leave => ControlFlow::Continue(()),
             Reply::Take => {
-                self.taken = Some(prefix.key);
+                self.taken = Some(*prefix.key);
                 ControlFlow::Continue(())
             }
             Reply::Close => {
-                self.taken = Some(prefix.key);
+                self.taken = Some(*prefix.key);
                 ControlFlow::Break(())
             }
         }
     }
 
     // Shows the policy, in rank order, what occurs of the keys that begin with the prefix; breaks at a close.
-    pub(crate) fn descend<Q: Problem>(&mut self, prefix: &Prefix<Q>) -> ControlFlow<()>
+    pub(crate) fn descend<Q: Problem>(&mut self, prefix: Prefix<Q>) -> ControlFlow<()>
         ensures same { self.new.policy.ghost_name ≡ self.old.policy.ghost_name }
-        ensures shows { FitsPrefix Q.Problem prefix.now → stands P.kept result self.new
-            ≡ shown_under P.rule (Q.view prefix.now.problem.now) (Q.test prefix.now.problem.now) (keyed prefix.now.key) (stands P.kept (Continue tt) self.old) }
+        ensures shows { FitsPrefix Q.Problem prefix.entry → stands P.kept result self.new
+            ≡ shown_under P.rule (Q.view prefix.entry.problem.now) (Q.test prefix.entry.problem.now) (keyed prefix.entry.key.now) (stands P.kept (Continue tt) self.old) }
     {
         if prefix.is_last() {
-            return self.visit(prefix);
+            return self.visit(&prefix);
         }
         for number in Numbers::of(prefix.candidates()) {
-            self.descend(&prefix.longer(number))?;
+            let key = prefix.key.with(number);
+            let note = prefix.longer_note(&key);
+            self.descend(prefix.longer(&note, &key))?;
         }
         ControlFlow::Continue(())
     }
@@ -84,9 +86,11 @@ impl<'a, P: Policy> Showing<'a, P> {
                 lowest = place;
             }
             let first = place as u16;
+            let key = Key::new().with(first);
             let start = problem.start(first);
+            let note = problem.note(&start, &blank, &key);
             if self
-                .descend(&Prefix::first(problem, &start, &blank, first))
+                .descend(Prefix::first(problem, &start, &note, &key))
                 .is_break()
             {
                 return lowest;

@@ -10,19 +10,21 @@ use Rattle.search.proofs.showing.Showing.+descend.Goals.{After-descend}
 
 pub returns-then-is_last-clause-shows : goal.returns-then-is_last-clause-shows
 returns-then-is_last-clause-shows g t c fits =
-    c.visit.ensures.shows fits ∙ ap (scan _ _ _) (listed_whole (g.Q.Problem.test c.args.prefix.now.problem.now) number_limit _ _ (c.if-is_last.ensures.whole fits))
+    c.visit.ensures.shows fits ∙ ap (scan _ _ _) (listed_whole (g.Q.Problem.test c.args.prefix.problem.now) number_limit _ _ (c.if-is_last.ensures.whole fits))
 
 pub loop-number-init : goal.loop-number-init
-loop-number-init g t c = record { same = refl; split = refl; seen = λ fits room. seen_none g.P.Policy.rule g.Q.Problem.view g.Q.Problem.test c.args.prefix.now.problem.now (keyed c.args.prefix.now.key) room _ }
+loop-number-init g t c = record { same = refl; split = refl; seen = λ fits room. seen_none g.P.Policy.rule g.Q.Problem.view g.Q.Problem.test c.args.prefix.problem.now (keyed c.args.prefix.key.now) room _ }
 
 -- once the keys under one more number were shown
-next : (g : _) (t : _) (c : After-descend g t) → FitsPrefix g.Q.Problem c.args.prefix.now → (room : length (keyed c.args.prefix.now.key) < key_size)
+next : (g : _) (t : _) (c : After-descend g t) → FitsPrefix g.Q.Problem c.args.prefix → (room : length (keyed c.args.prefix.key.now) < key_size)
     → (flow : ControlFlow (Unit {0}) (Unit {0})) → c.descend.result ≡ flow
-    → SeenOf g.P.Policy.rule g.Q.Problem.view g.Q.Problem.test c.args.prefix.now.problem.now (keyed c.args.prefix.now.key) room (stands g.P.Policy.kept (Continue tt) c.args.self.now) (c.loop-number.yielded ++ c.in-Some.number ∷ [])
+    → SeenOf g.P.Policy.rule g.Q.Problem.view g.Q.Problem.test c.args.prefix.problem.now (keyed c.args.prefix.key.now) room (stands g.P.Policy.kept (Continue tt) c.args.self.now) (c.loop-number.yielded ++ c.in-Some.number ∷ [])
     (stands g.P.Policy.kept flow c.descend.new.self)
 next g t c fits room flow is =
-    seen_with g.P.Policy.rule g.Q.Problem.view g.Q.Problem.test _ _ room _ _ _ (c.loop-number.invariant.seen fits room) _ _ c.longer.ensures.is _ c.longer.ensures.of _
-    (ap (λ (f : ControlFlow (Unit {0}) (Unit {0})). stands g.P.Policy.kept f c.descend.new.self) (sym is) ∙ c.descend.ensures.shows (c.longer.ensures.fits fits room))
+    let v = c.in-Some.number in
+    let put = c.with-key.ensures in
+    seen_with g.P.Policy.rule g.Q.Problem.view g.Q.Problem.test _ _ room _ _ _ (c.loop-number.invariant.seen fits room) _ _ (ap keyed c.longer.ensures.is ∙ put) _ c.longer.ensures.of _
+    (ap (λ (f : ControlFlow (Unit {0}) (Unit {0})). stands g.P.Policy.kept f c.descend.new.self) (sym is) ∙ c.descend.ensures.shows (c.longer.ensures.fits fits room v put (c.longer_note-note.ensures fits room v put)))
 
 pub returns-in_err-descend-clause-shows : goal.returns-in_err-descend-clause-shows
 returns-in_err-descend-clause-shows g t c fits =

@@ -1,6 +1,6 @@
-use Rattle.std.proofs.Common.{Continue, is_some, Bool, true, false, ◌≡◌, ℕ, ◌+◌, ◌≤◌, List, [], sym, refl, ap, ◌∙◌, subst, arith}
+use Rattle.std.proofs.Common.{Continue, is_some, Bool, true, false, ◌≡◌, ℕ, ◌+◌, ◌≤◌, List, [], slice_index, sym, refl, ap, ◌∙◌, subst, arith}
 use Rattle.std.specs.ControlFlow.{break_value}
-use Rattle.search.specs.Keys.{number_limit, held}
+use Rattle.search.specs.Keys.{number_limit, keyed, held, with_number}
 use Rattle.search.specs.Listing.{Passes, StartsFrom}
 use Rattle.search.specs.Policy.{Standing, standing, opening}
 use Rattle.search.specs.Prefixes.{stands}
@@ -29,9 +29,12 @@ next g c opens sound from closed is =
     let first = c.loop-place.place in
     let q = c.args.problem.now in
     let before = c.loop-place.invariant.seen opens sound from in
-    let put = c.first.ensures.is in
+    let named = c.with-key.ensures ∙ ap (λ (k : List ℕ). with_number k first) c.new.ensures in
+    let put = ap keyed c.first.ensures.is ∙ named in
+    let started = c.start-start.ensures sound in
+    let noted = c.note-note.ensures sound [] first named (subst (λ (k : List ℕ). g.Q.Problem.started q (slice_index k 0) c.start-start.result) (sym named) started) (c.blank-blank.ensures sound) in
     let less = left_less [] _ first put in
-    let shown = shown_same g.P.Policy.rule g.Q.Problem.view g.Q.Problem.test q _ _ _ _ c.first.ensures.of (c.descend.ensures.shows (c.first.ensures.fits sound (c.start-start.ensures sound) (c.blank-blank.ensures sound))) in
+    let shown = shown_same g.P.Policy.rule g.Q.Problem.view g.Q.Problem.test q _ _ _ _ c.first.ensures.of (c.descend.ensures.shows (c.first.ensures.fits first named sound started noted)) in
     let told = ap (λ (b : Bool). standing b (g.P.Policy.kept c.descend.new.self.policy.now) (held c.descend.new.self.taken)) (sym is) ∙ shown in
     let By : ℕ → Type 0 = λ n. FoundBy (g.Q.Problem.test q) n (held c.descend.new.self.taken) in (
       seen_more _ _ _ _ _ [] _ first _ before.0 _ put _ less _ told,
