@@ -1,14 +1,12 @@
 -- Rearrangements: what the test tells, and the table that leads back.
 use Rattle.std.proofs.Common.{◌≡◌, ℕ, zero, suc, ◌+◌, ◌<◌, ◌≤◌, Bool, true, false, cond, not, ◌&&◌, ◌||◌, eqb, ltb, leb, ◌⊎◌, List, [], ◌∷◌, ◌++◌, map, length, get_or, take, drop, set, sym, refl, ap, ◌∙◌, subst, ap₂, inl, inr, arith}
-use Rattle.std.specs.List.{AllByRecursion, insert, list_all, position, position_or_len, range_with_len, remove}
-use Rattle.std.specs.Prelude.{◌==◌, unwrap_or, Some, None}
-use Rattle.std.proofs.lemmas.List.Recursion.{is_position_or_len}
-use Rattle.std.proofs.lemmas.List.Sums.{prefix_len-le-length}
+use Rattle.std.specs.List.{AllByRecursion, insert, list_all, range_with_len, remove}
+use Rattle.std.proofs.lemmas.Grind.{get_or-set_at}
 use lib.ListN.{length-map}
-use Rattle.std.proofs.lemmas.List.{at_drop_more, at_drop_all, take_all, get_or-map, map-append, take-map, drop-map, map-set}
+use Rattle.std.proofs.lemmas.List.{at_drop_more, at_drop_all, ext_get_or, take_all, get_or-map, get_or-set_other, get_or-take, length-set, length-take, map-append, take-map, drop-map, map-set}
 use Rattle.std.proofs.ByRecursion.{All-get_or, All-from_get_or}
-use Rattle.std.proofs.lemmas.Bool.{cases_eq, cases_lt, lt-ltb, le-ltb, eq-eqb, ne_eqb, eqb-true, ltb-true, leb-true, and_parts, and_left, and_right, not-true, both_ways, or_cases}
-use Rattle.gates.specs.Lines.{Table, width, bit, every_below, counted, unmoved}
+use Rattle.std.proofs.lemmas.Bool.{cases_eq, cases_lt, eq-eqb, ne_eqb, eqb-true, ltb-true, leb-true, and_parts, and_left, and_right, not-true, both_ways, or_cases}
+use Rattle.gates.specs.Lines.{Table, width, bit, every_below, unmoved}
 use Rattle.gates.specs.Controls.{with_member}
 use Rattle.gates.specs.Members.{every_at, every_same, bit_none}
 use Rattle.gates.specs.ControlSets.{member_at, unmoved_at, unmoved_table}
@@ -55,20 +53,6 @@ completes_ends n seen t i le = at_drop_all (completes n seen) t i le
 
 pub no_rearrangement : (n : ℕ) (t : List ℕ) → completes n 0 t ≡ false → rearranges n t ≡ false
 no_rearrangement n t bad = and_right (leb n width) _ (and_right (eqb (length t) n) _ bad)
-
--- where a line stands is the first place at which it is found, or the length
-pub place_found : (t : List ℕ) (j : ℕ) → unwrap_or (position (λ x. x == j) t) (length t) ≡ place_of t j
-place_found t j = by (cases_lt first (length t))
-  where
-    first : ℕ
-    first = position_or_len (λ x. x == j) t
-
-    same : place_of t j ≡ first
-    same = is_position_or_len (λ r. place_of r j) (λ x. x == j) refl (λ x r. ap (cond (x == j) 0) (omega arith)) t
-
-    by : (first < length t) ⊎ (length t ≤ first) → unwrap_or (position (λ x. x == j) t) (length t) ≡ place_of t j
-    by (inl lt) = ap (λ (b : Bool). unwrap_or (cond b (Some first) None) (length t)) (lt-ltb first (length t) lt) ∙ sym same
-    by (inr ge) = ap (λ (b : Bool). unwrap_or (cond b (Some first) None) (length t)) (le-ltb first (length t) ge) ∙ omega (arith, prefix_len-le-length (λ x. not (x == j)) t) ∙ sym same
 
 -- what completing tells: the lines of the table are below n, none of them was seen, none stands twice, and every line was seen or stands in it
 below_all : (n seen : ℕ) (t : List ℕ) → completes n seen t ≡ true → AllByRecursion (λ x. x < n) t
@@ -182,15 +166,56 @@ sized n t h = (long n t (sym h), few n t (sym h))
 pub taken : (n : ℕ) (t : List ℕ) → true ≡ rearranges n t → take width t ≡ t
 taken n t h = take_all width t (let size = sized n t h in omega (arith, size.0, size.1))
 
--- the places of the lines are taken whole as well
-pub places_taken : (t : List ℕ) (n : ℕ) → n ≤ width → take width (map (place_of t) (range_with_len 0 n)) ≡ inverse_of n t
-places_taken t n few =
-    ap (λ (r : List ℕ). take width (map (place_of t) r)) (in_range 0 n)
-    ∙ take_all width (inverse_of n t) (omega (arith, length-map (counted 0 n) (place_of t), (unmoved_table n few).long, few))
-  where
-    in_range : (i few : ℕ) → range_with_len i few ≡ counted i few
-    in_range i zero = refl
-    in_range i (suc few) = ap (λ (r : List ℕ). i ∷ r) (ap (λ (j : ℕ). range_with_len j few) (let e : i + 1 ≡ suc i = omega arith in e) ∙ in_range (suc i) few)
+-- the places of the lines that stand in the table before place i, found one after the other
+pub record Placed (n : ℕ) (t : List ℕ) (i : ℕ) (places : List ℕ) : Type 0 where
+  pub long : length places ≡ width
+  pub known : (j : ℕ) → j < n → get_or (inverse_of n t) j 0 < i → get_or places j 0 ≡ get_or (inverse_of n t) j 0
+
+module _ (n : ℕ) (t : List ℕ) (is : true ≡ rearranges n t) where
+  r : Rearranged n t (inverse_of n t)
+  r = rearranged n t (sym is)
+
+  pub placed_none : (places : List ℕ) → length places ≡ width → Placed n t 0 places
+  placed_none places long = record { long = long; known = λ j jl none. absurd (let z : ⊥ = omega (arith, none) in z) }
+
+  pub line_below : (i : ℕ) → i < length t → get_or t i 0 < n
+  line_below i lt = All-get_or (λ x. x < n) t i 0 lt r.there.below
+
+  -- a line stands at one place only, and at that place no other
+  pub placed_more : (i : ℕ) (places : List ℕ) → i < length t → Placed n t i places → Placed n t (i + 1) (set places (get_or t i 0) i)
+  placed_more i places lt so = record { long = length-set places x i ∙ so.long; known = λ j jl le. by j jl le (cases_eq j x) }
+    where
+      x : ℕ
+      x = get_or t i 0
+
+      il : i < n
+      il = omega (arith, lt, r.there.long)
+
+      xl : x < n
+      xl = line_below i lt
+
+      below_next : (a b : ℕ) → a < b + 1 → (a ≡ b → ⊥) → a < b
+      below_next a b le ne = elim (cases_lt a b) [ inl l ↦ l | inr g ↦ absurd (ne (omega (arith, le, g))) ]
+
+      by : (j : ℕ) → j < n → get_or (inverse_of n t) j 0 < i + 1 → (j ≡ x) ⊎ (j ≡ x → ⊥) → get_or (set places x i) j 0 ≡ get_or (inverse_of n t) j 0
+      by j jl le (inl e) =
+          get_or-set_at places x j i 0 e (omega (arith, xl, r.there.few, so.long))
+          ∙ sym (r.undone i il) ∙ ap (λ (u : ℕ). get_or (inverse_of n t) u 0) (sym e)
+      by j jl le (inr ne) =
+          let other : get_or (inverse_of n t) j 0 ≡ i → ⊥ = λ here. ne (sym (r.redone j jl) ∙ ap (λ (u : ℕ). get_or t u 0) here) in
+          get_or-set_other places x j i 0 ne ∙ so.known j jl (below_next _ _ le other)
+
+  pub back_taken : take width (inverse_of n t) ≡ inverse_of n t
+  back_taken = take_all width (inverse_of n t) (omega (arith, r.back_again.long, r.there.few))
+
+  pub placed_all : (i : ℕ) (places : List ℕ) → length t ≤ i → Placed n t i places → take n places ≡ inverse_of n t
+  placed_all i places le so =
+      let long : length (take n places) ≡ n = omega (arith, length-take n places, so.long, r.there.few) in
+      ext_get_or 0 (take n places) (inverse_of n t) (long ∙ sym r.back_again.long)
+      (λ j lt.
+      let jl : j < n = omega (arith, lt, long) in
+      let early : get_or (inverse_of n t) j 0 < i = omega (arith, le, r.there.long, All-get_or (λ x. x < n) (inverse_of n t) j 0 (omega (arith, jl, r.back_again.long)) r.back_again.below) in
+      get_or-take n places j 0 jl ∙ so.known j jl early)
 
 -- a gate that is written through the old lines is shown as it was, and is well formed
 pub written_back : {k : KindMeaning} → KindLaws k → (new old : List ℕ) → rearranges (length new) new ≡ true → old ≡ inverse_of (length new) new

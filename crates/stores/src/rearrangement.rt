@@ -1,5 +1,5 @@
 // Rearrangements of lines: tables in which each line stands once, with the table that leads back.
-ghost use Rattle.std.specs.Prelude.{◌≡◌, position, ◌==◌, true, [], length, if◌then◌else◌};
+ghost use Rattle.std.specs.Prelude.{◌≡◌, true, [], length, if◌then◌else◌};
 ghost use Rattle.std.specs.List.{list_all, range_with_len};
 ghost use Rattle.fixed_list.specs.Lists.{contents};
 ghost use Rattle.gates.specs.Lines.{bit};
@@ -43,13 +43,6 @@ pub fn is_rearrangement(table: &[u8], lines: u8) -> bool
     has_all_lines(seen, lines)
 }
 
-// The place at which a line stands in the table, if it stands there.
-fn find_place(table: &[u8], line: u8) -> Option<usize>
-    ensures { result ≡ position (λ new. new == line) table.now }
-{
-    table.iter().position(|new| *new == line)
-}
-
 impl Rearrangement {
     // The rearrangement that a table is of so many lines; of no lines where it is none.
     pub fn new(table: &[u8], lines: u8) -> Rearrangement
@@ -64,8 +57,12 @@ impl Rearrangement {
             };
         }
         let new = FixedList::of(table, 0);
-        let places = (0..lines).map(|line| find_place(table, line).unwrap_or(table.len()) as u8);
-        let old = FixedList::collected(places, 0);
+        // One pass, since no line stands twice.
+        let mut places = [0u8; 32];
+        for (place, line) in table.iter().enumerate() {
+            places[usize::from(*line)] = place as u8;
+        }
+        let old = FixedList::of(&places[..table.len()], 0);
         Rearrangement { new, old }
     }
 

@@ -3,9 +3,9 @@ ghost use Rattle.std.specs.Prelude.{◌≡◌};
 ghost use Rattle.stores.specs.MountFacts.{window_bounded};
 ghost use Rattle.stores.specs.Mounts.{start_in, window, window_made, window_outcome};
 
-use super::checks::{check_place, check_place_before};
+use super::checks::{check_place, check_place_before, check_room};
 use super::{Store, StoreRefusal};
-use gates::Gate;
+use gates::{Gate, check_gate};
 
 // Shows so many gates of the store below from a place on; it grows and shrinks with its list, and the gates outside it stay.
 #[derive(Drop)]
@@ -32,9 +32,11 @@ impl<S: Store> Window<S> {
         ensures holds { result.below ≡ below }
         ensures shows { window result.start result.size (S.means result.below) ≡ window_made from to (S.means below) }
     {
-        let (start, size) = match check_window(&below, from, to) {
-            Ok(()) => (from, to - from),
-            Err(_) => (0, below.count()),
+        let count = below.count();
+        let (start, size) = if from <= to && to <= count {
+            (from, to - from)
+        } else {
+            (0, count)
         };
         Window { below, start, size }
     }
@@ -81,6 +83,7 @@ impl<S: Store> Store for Window<S> {
 
     fn overwrite(&mut self, place: usize, gate: Gate) -> Result<(), StoreRefusal> {
         check_place(place, self.count())?;
+        check_gate::<S::Kind>(gate, self.below.lines())?;
         let first = self.first();
         self.below.overwrite(first + place, gate)
     }
@@ -88,6 +91,8 @@ impl<S: Store> Store for Window<S> {
     fn insert(&mut self, place: usize, gate: Gate) -> Result<(), StoreRefusal> {
         let size = self.count();
         check_place_before(place, size)?;
+        check_gate::<S::Kind>(gate, self.below.lines())?;
+        check_room(self.below.count(), self.below.capacity())?;
         let first = self.first();
         self.below.insert(first + place, gate)?;
         self.start = first;
