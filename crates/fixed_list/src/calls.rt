@@ -48,6 +48,7 @@ impl<T: Copy, const N: usize> FixedList<T, N> {
     pub fn len(&self) -> usize
         ensures is { result ≡ length (contents self.now) }
         ensures few { result ≤ N }
+        ensures wide { length self.now.items ≡ N }
     {
         self.as_slice().len()
     }
@@ -57,7 +58,7 @@ impl<T: Copy, const N: usize> FixedList<T, N> {
         ensures is { result.now ≡ contents self.now }
         ensures few { length result.now ≤ N }
     {
-        &self.items[..self.count]
+        &self.items[..self.count.min(N)]
     }
 
     // Puts an item behind the others, where there is room.
@@ -65,7 +66,7 @@ impl<T: Copy, const N: usize> FixedList<T, N> {
         ensures answers { result ≡ push_outcome N (contents self.old) }
         ensures leaves { contents self.new ≡ pushed N (contents self.old) item }
     {
-        if self.count == N {
+        if self.count >= N {
             return Err(Full {});
         }
         self.items[self.count] = item;
@@ -78,12 +79,13 @@ impl<T: Copy, const N: usize> FixedList<T, N> {
         ensures answers { result ≡ slice_get (contents self.old) place }
         ensures leaves { contents self.new ≡ removed (contents self.old) place }
     {
-        if place >= self.count {
+        let count = self.len();
+        if place >= count {
             return None;
         }
         let item = self.items[place];
-        self.items.copy_within(place + 1..self.count, place);
-        self.count -= 1;
+        self.items.copy_within(place + 1..count, place);
+        self.count = count - 1;
         Some(item)
     }
 
@@ -106,7 +108,7 @@ impl<T: Copy, const N: usize> FixedList<T, N> {
         ensures there { place < length (contents self.old) → Changed F.FnOnce change (contents self.old) place (contents self.new) }
         ensures beyond { length (contents self.old) ≤ place → self.new ≡ self.old }
     {
-        if place < self.count {
+        if place < self.len() {
             let mut item = self.items[place];
             change(&mut item);
             self.items[place] = item;

@@ -1,19 +1,17 @@
 // A list in an array: the first items count, and what stands behind them has no meaning.
-ghost use Rattle.std.specs.Prelude.{◌≡◌, ◌≤◌, length, ⊤};
+ghost use Rattle.std.specs.Prelude.{◌≡◌, ⊤};
 
 use std::alloc::AllocError;
 
-// The items of a list of at most `N`.
-// No model: a copy has to give back its fields, and what stands behind the items is in no view.
+// The items of a list of at most `N`. A count above `N` counts them all.
+// No ghost fields: no function that holds a `&mut` beside a struct with one in a type argument is proved.
 #[derive(Copy, Debug)]
 pub struct FixedList<T, const N: usize> {
     pub(crate) items: [T; N],
     pub(crate) count: usize,
-    ghost wide: { length items ≡ N },
-    ghost few: { count ≤ N },
 }
 
-// A copy is a clone. By hand: a derive is refused beside a ghost field.
+// A copy is a clone. By hand: a derive says it of each item's own clone alone.
 impl<T: Copy, const N: usize> Clone for FixedList<T, N> {
     ghost is_clone = { λ list copy. copy ≡ list };
 

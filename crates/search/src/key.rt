@@ -35,6 +35,7 @@ impl Key {
     pub fn len(&self) -> usize
         ensures is { result ≡ length (keyed self.now) }
         ensures few { result ≤ KEY_SIZE }
+        ensures wide { length self.now.numbers.items ≡ KEY_SIZE }
     {
         self.numbers.len()
     }

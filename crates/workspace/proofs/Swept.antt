@@ -1,6 +1,7 @@
 -- What a search and the replacement of what it found come to.
-use Rattle.std.proofs.Common.{◌≡◌, ℕ, ◌≤◌, List, [], length, take, Some, None, Option, sym, refl, ap, ◌∙◌, subst, arith}
-use Rattle.std.proofs.lemmas.List.{length-map, length-take}
+use Rattle.std.proofs.Common.{◌≡◌, ℕ, ◌≤◌, List, [], length, Some, None, Option, sym, refl, ap, ◌∙◌, subst, arith}
+use Rattle.std.proofs.lemmas.List.{length-map}
+use Rattle.fixed_list.specs.Lists.{contents}
 use Rattle.gates.specs.Kinds.{KindMeaning, KindLaws}
 use Rattle.stores.specs.Stores.{Bounded, StoreMeaning}
 use Rattle.search.specs.Keys.{ShownIn}
@@ -21,9 +22,8 @@ use Rattle.workspace.proofs.Sweeping.{replaced_shortens, unshortened}
 -- a sound workspace can be searched: a store is bounded, and a shelf has at most 64 entries
 pub ready : {S : Type 0} (k : KindMeaning) (means : S → StoreMeaning) → ((s : S) → Bounded (means s)) → (h : Holdings S) → Sound k (condition_of means h) → Searchable k (condition_of means h)
 ready k means bounded h sound =
-    let list = h.shelf.entries in
     let c = condition_of means h in
-    let few : length c.shelf ≤ 64 = omega (arith, length-map (take list.count list.items) entry_of, length-take list.count list.items, list.few) in
+    let few : length c.shelf ≤ 64 = omega (arith, length-map (contents h.shelf.entries) entry_of, h.shelf.few) in
     record { sound = sound; fits = keys_fit k c sound (bounded h.store) few; decides = decides_occurrences k c.store.lines c.store.gates c.shelf }
 
 -- from 0 on there is every first number

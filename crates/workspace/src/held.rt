@@ -2,7 +2,7 @@
 ghost use Rattle.std.specs.Prelude.{◌≡◌, ◌≤◌, [], length};
 ghost use Rattle.workspace.specs.Proposals.{proposed, template_of};
 
-use super::template::{MOST_GATES, MOST_GROUPS, MOST_LINES};
+use super::template::{MOST_GATES, MOST_GROUPS};
 use super::{PositionSet, Proposal, Template};
 use fixed_list::FixedList;
 use gates::Gate;
@@ -21,7 +21,6 @@ impl Template {
 
     // What is proposed, held.
     pub(super) fn holding(proposal: &Proposal) -> Template
-        requires few_lines { proposal.now.lines ≤ MOST_LINES }
         requires few_gates { length proposal.now.gates.now ≤ MOST_GATES }
         requires few_groups { length proposal.now.groups.now ≤ MOST_GROUPS }
         ensures { template_of result ≡ proposed proposal.now }

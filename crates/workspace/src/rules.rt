@@ -49,6 +49,7 @@ pub(super) fn are_groups_sound(proposal: &Proposal) -> bool
 
 // Whether the gates in none of the selected groups restore every state of the template's lines.
 fn does_part_restore<K: GateKind>(template: &Template, selection: PositionSet) -> bool
+    requires { (template_of template.now).lines ≤ MOST_LINES }
     ensures { result ≡ restores_test K.means (template_of template.now).lines (unselected (bit selection) (template_of template.now)) }
 {
     let chosen = positions::outside_selected(template.groups(), selection);
@@ -57,6 +58,7 @@ fn does_part_restore<K: GateKind>(template: &Template, selection: PositionSet) -
 
 // Whether the whole template restores every state of its lines.
 pub(super) fn does_whole_restore<K: GateKind>(template: &Template) -> bool
+    requires { (template_of template.now).lines ≤ MOST_LINES }
     ensures { result ≡ whole_test K.means (template_of template.now) }
 {
     does_part_restore::<K>(template, 0)
@@ -64,6 +66,7 @@ pub(super) fn does_whole_restore<K: GateKind>(template: &Template) -> bool
 
 // Whether, for every selection of the groups, the gates in none of the selected do.
 pub(super) fn do_selections_restore<K: GateKind>(template: &Template) -> bool
+    requires { (template_of template.now).lines ≤ MOST_LINES }
     ensures { result ≡ selections_test K.means (template_of template.now) }
 {
     let selections = 1u32 << template.groups().len();

@@ -1,10 +1,10 @@
 // The shelf: a list of at most 64 templates, each with the count of its replacements.
 ghost use Rattle.std.specs.Prelude.{◌≡◌, ◌<◌, ◌≤◌, [], IfNone, IfSome, length, slice_get};
 ghost use Rattle.std.specs.Option.{option_map};
-ghost use Rattle.fixed_list.specs.Lists.{push_outcome, pushed, removed};
+ghost use Rattle.fixed_list.specs.Lists.{contents, push_outcome, pushed, removed};
 ghost use Rattle.workspace.specs.Conditions.{counted_once, entry};
 ghost use Rattle.workspace.specs.Proposals.{template_of};
-ghost use Rattle.workspace.specs.Shelves.{IsNumbered, counted_at, entries_of, entry_of};
+ghost use Rattle.workspace.specs.declared.shelf.TheConstants.{MOST_ENTRIES};
 
 use super::Template;
 use super::entry::Entry;
@@ -14,6 +14,8 @@ use fixed_list::{FixedList, Full};
 pub const MOST_ENTRIES: usize = 64;
 
 impl Entry {
+    ghost use Rattle.workspace.specs.Shelves.{entry_of};
+
     // The entry of a template that has just been shelved.
     fn new(template: Template) -> Entry
         ensures { entry_of result ≡ entry (template_of template) 0 }
@@ -36,9 +38,12 @@ impl Entry {
 #[derive(Clone, Copy)]
 pub(crate) struct Shelf {
     entries: FixedList<Entry, MOST_ENTRIES>,
+    ghost few: { length (contents entries) ≤ MOST_ENTRIES },
 }
 
 impl Shelf {
+    ghost use Rattle.workspace.specs.Shelves.{IsNumbered, counted_at, entries_of, entry_of};
+
     // A bare shelf.
     pub(crate) fn new() -> Shelf
         ensures { entries_of result ≡ [] }

@@ -41,6 +41,11 @@ impl<K: GateKind> Clone for Start<K> {
     }
 }
 
+// By hand: the marker would ask it of the kind too, of which no value is held.
+unsafe impl<K: GateKind> Send for Start<K> {}
+
+unsafe impl<K: GateKind> Sync for Start<K> {}
+
 // What is known for this first place.
 pub(crate) fn start_at<S: Store>(store: &S, first: usize) -> Start<S::Kind>
     ensures { contents result.frame ≡ frame_at (S.means store.now).gates first }

@@ -1,7 +1,4 @@
 // Templates, as they are proposed and as a shelf holds them.
-ghost use Rattle.std.specs.Prelude.{◌≤◌};
-ghost use Rattle.workspace.specs.declared.template.TheConstants.{MOST_LINES};
-
 use fixed_list::FixedList;
 use gates::Gate;
 
@@ -31,5 +28,4 @@ pub struct Template {
     pub(super) lines: u8,
     pub(super) gates: FixedList<Gate, MOST_GATES>,
     pub(super) groups: FixedList<PositionSet, MOST_GROUPS>,
-    ghost few_lines: { lines ≤ MOST_LINES },
 }
