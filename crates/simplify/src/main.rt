@@ -45,14 +45,14 @@ fn tell_mounts<S: Store<Kind = Toffoli> + Drop>(rt: &impl Print, store: S) -> Re
     let reversed = Reversed::new(store);
     tell_list(rt, "reversed", &reversed)?;
     let back = List::of(&reversed)?;
-    print!(rt; "{}", Trips::new(&ADDER, back.as_slice()))?;
+    Trips::new(&ADDER, back.as_slice()).tell(rt)?;
     check_table(&reversed, &TABLE)?;
     let pile = Renamed::new(reversed, &TABLE);
     tell_list(rt, "reversed and renamed", &pile)?;
     let there = List::of(&pile)?;
     let pile = Reversed::new(pile);
     let back = List::of(&pile)?;
-    print!(rt; "{}", Trips::new(there.as_slice(), back.as_slice()))?;
+    Trips::new(there.as_slice(), back.as_slice()).tell(rt)?;
     let pile = tell_edits(rt, pile.into_below())?;
     tell_list(rt, "adder after the edits", &pile.into_below().into_below())
 }
@@ -60,7 +60,7 @@ fn tell_mounts<S: Store<Kind = Toffoli> + Drop>(rt: &impl Print, store: S) -> Re
 fn main(rt: HostRuntime) -> Result<(), Failure> {
     let mut back = ADDER;
     invert_cascade::<Toffoli>(&mut back);
-    print!(rt; "{}", Trips::new(&ADDER, &back))?;
+    Trips::new(&ADDER, &back).tell(&rt)?;
     check_lines(LINES)?;
     let mut records = [Gate::BLANK; MOST];
     let store: GapStore<Toffoli> = GapStore::new(&mut records, LINES);

@@ -62,9 +62,10 @@ impl<'a, R: Print, S: Store> Shelving<'a, R, S> {
 
     // Withdraws an entry, and prints what became of it.
     fn withdraw(&mut self, number: usize) -> io::Result<()> {
+        print!(self.rt; "withdraw {number}")?;
         let answer = self.workspace.withdraw(number);
         let outcome = Outcome(answer.map(|()| "done"));
-        println!(self.rt; "withdraw {number}: {outcome}")
+        println!(self.rt; ": {outcome}")
     }
 
     // Prints each entry's number with its count, and how many there are.

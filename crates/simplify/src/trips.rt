@@ -5,7 +5,7 @@ ghost use Rattle.simplify.specs.declared.round_trip.RoundTrip.{RoundTrip};
 use crate::adder::{LINES, STATES};
 use crate::round_trip::RoundTrip;
 use gates::Gate;
-use std::{array, fmt};
+use std::{array, io};
 
 // The way of each state, and how many gates the cascade has.
 #[derive(Clone, Copy)]
@@ -25,18 +25,16 @@ impl Trips {
             ways: array::from_fn(|start| RoundTrip::new(there, back, start as u32)),
         }
     }
-}
 
-// A line for each way, and how many states came back.
-impl fmt::Display for Trips {
-    fn fmt<W: fmt::Write>(&self, f: &mut fmt::Formatter<W>) -> fmt::Result {
+    // Prints a line for each way, each written by itself, and how many states came back.
+    pub fn tell(&self, rt: &impl Print) -> io::Result<()> {
         for way in self.ways {
-            writeln!(f, "{way}")?;
+            println!(rt; "{way}")?;
         }
         let restored = self.ways.iter().filter(|way| way.is_restored()).count();
-        writeln!(f, "lines {LINES}")?;
-        writeln!(f, "gates {}", self.gates)?;
-        writeln!(f, "states run {}", self.ways.len())?;
-        writeln!(f, "states restored {restored}")
+        println!(rt; "lines {LINES}")?;
+        println!(rt; "gates {}", self.gates)?;
+        println!(rt; "states run {}", self.ways.len())?;
+        println!(rt; "states restored {restored}")
     }
 }

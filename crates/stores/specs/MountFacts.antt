@@ -21,9 +21,13 @@ backward_long k gates = length-map (reverse gates) k.inverse ∙ length-reverse 
 pub reversed_bounded : (k : KindMeaning) (m : StoreMeaning) → Bounded m → Bounded (reversed k m)
 reversed_bounded k m b = same_bounded m (backward k m.gates) (backward_long k m.gates) b
 
+-- a store with each gate turned into another, whatever turns it
+pub turned_bounded : (turn : Gate → Gate) (m : StoreMeaning) → Bounded m → Bounded (with_gates m (map turn m.gates))
+turned_bounded turn m b = same_bounded m (map turn m.gates) (length-map m.gates turn) b
+
 -- a renamed store
 pub renamed_bounded : (k : KindMeaning) (table : List ℕ) (m : StoreMeaning) → Bounded m → Bounded (renamed_view k table m)
-renamed_bounded k table m b = same_bounded m (map (shown_gate k table m.lines) m.gates) (length-map m.gates (shown_gate k table m.lines)) b
+renamed_bounded k table m b = turned_bounded (shown_gate k table m.lines) m b
 
 -- a window
 pub window_bounded : (start size : ℕ) (m : StoreMeaning) → Bounded m → Bounded (window start size m)

@@ -73,7 +73,9 @@ impl SlowList {
             return Err(StoreRefusal::NoSuchPlace);
         }
         check_formed::<K>(gate)?;
-        self.list.change(place, |old| *old = gate);
+        let gates = self.gates().iter().copied();
+        let behind = self.gates().iter().copied().skip(place + 1);
+        *self = self.listed(gates.take(place).chain(iter::once(gate)).chain(behind));
         Ok(())
     }
 
@@ -94,7 +96,11 @@ impl SlowList {
 
     // Removing a place: the gate, or refused for the place.
     pub fn remove(&mut self, place: usize) -> Result<Gate, StoreRefusal> {
-        self.list.remove(place).ok_or(StoreRefusal::NoSuchPlace)
+        let gate = *self.gates().get(place).ok_or(StoreRefusal::NoSuchPlace)?;
+        let gates = self.gates().iter().copied();
+        let behind = self.gates().iter().copied().skip(place + 1);
+        *self = self.listed(gates.take(place).chain(behind));
+        Ok(gate)
     }
 
     // The list last to first; each gate of either kind is its own inverse.
