@@ -108,7 +108,9 @@ impl<S: Store> Problem for Holdings<S> {
         let Ok(x) = Line::try_from(last) else {
             return *above;
         };
-        above.narrowed::<S::Kind>(start, line as u8, &x)
+        let mut note = *above;
+        note.narrow::<S::Kind>(start, line as u8, &x);
+        note
     }
 
     fn is_whole(&self, start: &Start<S::Kind>, note: &Note, key: &Key) -> bool {

@@ -57,16 +57,14 @@ impl Image {
 }
 
 impl Note {
-    // The note after line x became the image of the line.
-    pub(crate) fn narrowed<K: GateKind>(&self, start: &Start<K>, line: u8, x: &Line) -> Note
-        ensures poses { members_in result.images ≡ members_in self.now.images }
-        ensures reaches { AllZip (Narrows K.means (contents start.now.frame) line x.now.number) (contents self.now.images) (contents result.images) }
-        ensures chooses { result.chosen ≡ self.now.chosen }
+    // Narrows each image, after line x became the image of the line.
+    pub(crate) fn narrow<K: GateKind>(&mut self, start: &Start<K>, line: u8, x: &Line)
+        ensures poses { members_in self.new.images ≡ members_in self.old.images }
+        ensures reaches { AllZip (Narrows K.means (contents start.now.frame) line x.now.number) (contents self.old.images) (contents self.new.images) }
+        ensures chooses { self.new.chosen ≡ self.old.chosen }
     {
-        let mut note = *self;
-        note.images
+        self.images
             .turn_each(|image| image.narrowed::<K>(start, line, x));
-        note
     }
 
     // The note after one more distance was chosen.

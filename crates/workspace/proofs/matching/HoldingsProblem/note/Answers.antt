@@ -34,5 +34,5 @@ pub returns : goal.returns
 returns g c sound prefix v is started above six o b =
     line_noted g.S.Kind.GateKind.means (condition_of g.S.Store.means c.args.self.now) sound.sound (keyed c.args.key.now) prefix v is o b
     (template_of c.in-Some.template.now) c.in-Some.ensures.1 (c.in-Some-checked_sub.behind - 1) c.from-last.result (omega arith) (c.from-last.ensures ∙ c.at-2.ensures)
-    g.met.S.Kind.GateKind.lawful c.args.above.now c.narrowed.result above (omega arith) c.in-Ok.x.number c.in-Ok.ensures (contents c.args.start.now.frame) started.frame
-    c.narrowed.ensures.poses c.narrowed.ensures.chooses c.narrowed.ensures.reaches
+    g.met.S.Kind.GateKind.lawful c.args.above.now c.narrow.new.self above (omega arith) c.in-Ok.x.number c.in-Ok.ensures (contents c.args.start.now.frame) started.frame
+    c.narrow.ensures.poses c.narrow.ensures.chooses c.narrow.ensures.reaches

@@ -3,7 +3,7 @@ use Rattle.fixed_list.specs.Lists.{contents}
 use Rattle.workspace.specs.Turns.{at_position}
 use Rattle.workspace.specs.declared.notes.Image.{Image}
 use Rattle.workspace.proofs.Images.{zip_kept, zip_weaker}
-use Rattle.workspace.proofs.notes.Note.narrowed.Goals as goal
+use Rattle.workspace.proofs.notes.Note.narrow.Goals as goal
 
 pub returns-clause-poses : goal.returns-clause-poses
 returns-clause-poses g c =
