@@ -1,9 +1,9 @@
 -- Lists in arrays: what moving the later items up leaves.
-use Rattle.std.proofs.Common.{◌≡◌, ℕ, subst, get_or, zero, suc, [], ◌∷◌, refl, ◌+◌, ◌-◌, ◌<◌, ◌≤◌, Bool, true, false, nat_lt, List, ◌++◌, length, take, drop, sym, ap, ap₂, ◌∙◌, arith, cond}
+use Rattle.std.proofs.Common.{◌≡◌, ℕ, subst, get_or, zero, suc, [], ◌∷◌, refl, set, ◌+◌, ◌-◌, ◌<◌, ◌≤◌, Bool, true, false, nat_lt, List, ◌++◌, length, take, drop, min, sym, ap, ap₂, ◌∙◌, arith, cond}
 use Rattle.std.specs.List.{AllZip, copy_within, remove}
 use Rattle.std.proofs.lemmas.Slice.Zip.{AllZip-long}
 use Rattle.std.proofs.lemmas.Bool.{lt-ltb, ltb-true, ltb_from_iff}
-use Rattle.std.proofs.lemmas.List.{drop-take, take-take, take_more, length-drop, length-take-le}
+use Rattle.std.proofs.lemmas.List.{drop-take, take-take, take_min, take_more, take_more_set, length-drop, length-take, length-take-le}
 use Rattle.std.proofs.lemmas.List.Edits.{take-paste}
 use Rattle.fixed_list.specs.Lists.{pushed, removed}
 
@@ -40,6 +40,22 @@ turned_more R xs ys i most d y inside few zipped one =
     let room : length ys < most = omega (arith, AllZip-long R (take i xs) ys zipped, length-take-le i xs (omega arith)) in
     subst (AllZip R (take (i + 1) xs)) (sym (ap (λ (t : Bool). cond t (ys ++ y ∷ []) ys) (lt-ltb (length ys) most room)))
     (subst (λ (zs : List _). AllZip R zs (ys ++ y ∷ [])) (sym (take_more xs i d inside)) (zip_more R (take i xs) ys (get_or xs i d) y zipped one))
+
+-- one item more is turned where it stands
+pub turned_next : {A B : Type 0} (R : A → B → Type 0) (xs : List A) (ys : List B) (i : ℕ) (d : A) (y : B)
+    → i < length xs → i < length ys → AllZip R (take i xs) (take i ys) → R (get_or xs i d) y → AllZip R (take (i + 1) xs) (take (i + 1) (set ys i y))
+turned_next R xs ys i d y inside room zipped one =
+    subst (λ (zs : List _). AllZip R zs (take (i + 1) (set ys i y))) (sym (take_more xs i d inside))
+    (subst (AllZip R (take i xs ++ get_or xs i d ∷ [])) (sym (take_more_set ys i y room)) (zip_more R (take i xs) (take i ys) (get_or xs i d) y zipped one))
+
+-- all items that count are turned
+pub turned_all : {A B : Type 0} (R : A → B → Type 0) (xs : List A) (ys : List B) (i m n : ℕ) → i ≡ length (take m xs) → n ≡ m → length ys ≡ length xs
+    → AllZip R (take i xs) (take i ys) → AllZip R (take m xs) (take n ys)
+turned_all R xs ys i m n is same long zipped =
+    let before : take i xs ≡ take m xs = ap (λ (k : ℕ). take k xs) (is ∙ length-take m xs) ∙ take_min m xs in
+    let counted : min m (length xs) ≡ min n (length ys) = omega (arith, same, long) in
+    let after : take i ys ≡ take n ys = ap (λ (k : ℕ). take k ys) (is ∙ length-take m xs ∙ counted) ∙ take_min n ys in
+    subst (λ (zs : List _). AllZip R zs (take n ys)) before (subst (AllZip R (take i xs)) after zipped)
 
 -- an item behind the first ones of a list, where there is room
 pub pushed_first : {T : Type 0} (most : ℕ) (xs : List T) (x : T) → pushed most (take most xs) x ≡ take most (xs ++ x ∷ [])

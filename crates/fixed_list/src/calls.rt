@@ -102,6 +102,16 @@ impl<T: Copy, const N: usize> FixedList<T, N> {
         turned
     }
 
+    // Turns each item into another, where it stands.
+    pub fn turn_each<F: Fn(T) -> T>(&mut self, turn: F)
+        requires { F.IsAlwaysCallable turn }
+        ensures { AllZip (F.post turn) (contents self.old) (contents self.new) }
+    {
+        for place in 0..self.len() {
+            self.items[place] = turn(self.items[place]);
+        }
+    }
+
     // Changes the item at a place, where there is one. By a closure: a lent item would need a starred clause.
     pub fn change<F: FnOnce(&mut T)>(&mut self, place: usize, change: F)
         requires { F.IsAlwaysCallable change }

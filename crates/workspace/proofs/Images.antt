@@ -1,8 +1,9 @@
 -- Lists made item by item from others.
-use Rattle.std.proofs.Common.{◌≡◌, ℕ, zero, suc, ◌<◌, ◌≤◌, List, [], ◌∷◌, map, length, get_or, take, drop, set, replicate, sym, refl, ap, ◌∙◌, ap₂, arith}
+use Rattle.std.proofs.Common.{◌≡◌, ◌≢◌, ℕ, zero, suc, ◌+◌, ◌<◌, Bool, cond, List, [], ◌∷◌, ◌++◌, map, length, get_or, take, sym, refl, ap, ◌∙◌, ap₂, arith}
 use Rattle.std.specs.List.{AllZip}
-use Rattle.std.proofs.lemmas.List.{length-map}
-use Rattle.workspace.specs.declared.notes.Image.{Image}
+use Rattle.std.proofs.lemmas.Bool.{lt-ltb}
+use Rattle.std.proofs.lemmas.List.{length-map, length-take, map_push, take_more, get_or-replicate}
+use Rattle.fixed_list.specs.Lists.{pushed}
 use Rattle.workspace.specs.Notes.{open_reach}
 
 module _ {A B : Type 0} where
@@ -20,31 +21,20 @@ module _ {A B : Type 0} where
   zip_kept R f g h (x ∷ xs) [] z = absurd z
   zip_kept R f g h (x ∷ xs) (y ∷ ys) z = ap₂ ◌∷◌ (h x y z.0) (zip_kept R f g h xs ys z.1)
 
--- all distances but the first place's own
-abbrev pub later : ℕ
-later = 18446744073709551614
+-- one item more is put behind those that are what the first of a list are
+pub filled_next : {X Y : Type 0} (h : X → Y) (most : ℕ) (xs : List X) (x : X) (ys : List Y) (j : ℕ) (d : Y)
+    → j < most → j < length ys → map h xs ≡ take j ys → h x ≡ get_or ys j d → map h (pushed most xs x) ≡ take (j + 1) ys
+filled_next {X} {Y} h most xs x ys j d room inside before is =
+    let long : length xs ≡ j = sym (length-map xs h) ∙ ap length before ∙ omega (arith, length-take j ys) in
+    ap (λ (b : Bool). map h (cond b (xs ++ x ∷ []) xs)) (lt-ltb (length xs) most (omega arith))
+    ∙ map_push h xs x
+    ∙ ap₂ (λ (front : List Y) (y : Y). front ++ y ∷ []) before is
+    ∙ sym (take_more ys j d inside)
 
--- as many as there are items
-all_later : {A : Type 0} (xs : List A) (n : ℕ) → length xs ≤ n → map (λ (x : A). later) xs ≡ take (length xs) (replicate n later)
-all_later [] n few = refl
-all_later (x ∷ xs) zero few = absurd (let z : ⊥ = omega arith in z)
-all_later (x ∷ xs) (suc n) few = ap (λ (r : List ℕ). later ∷ r) (all_later xs n (omega arith))
+-- where the first gate can stand before any line is known, and where a later one can
+pub open_first : (j : ℕ) → j ≡ 0 → 1 ≡ get_or open_reach j 0
+open_first j first = ap (λ (i : ℕ). get_or open_reach i 0) (sym first)
 
--- images that can stand at any later place, but for the first, which stands at the first place
-pub opened : {A P : Type 0} (f : Image → P) (ms : List A) (xs ys : List Image) → length ms ≤ 8 → map (λ (m : Image). m.reached) xs ≡ map (λ (m : A). later) ms
-    → (0 < length xs → (x : Image) × (x' : Image) × (get_or xs 0 x ≡ x) × (f x' ≡ f x) × (x'.reached ≡ 1) × (ys ≡ set xs 0 x')) → (length xs ≤ 0 → ys ≡ xs)
-    → (map f ys ≡ map f xs) × (map (λ (m : Image). m.reached) ys ≡ take (length ys) open_reach)
-opened f ms [] ys few all some none =
-    let is : ys ≡ [] = none (omega arith) in
-    (ap (map f) is, ap (map (λ (m : Image). m.reached)) is ∙ sym (ap (λ (zs : List Image). take (length zs) open_reach) is))
-opened f [] (a ∷ xs) ys few all some none = absurd (let long = ap length all in let z : ⊥ = omega (arith, long) in z)
-opened {A} {P} f (m ∷ ms) (a ∷ xs) ys few all some none =
-    let (x, x', first, kept, one, is) = some (omega arith) in
-    let rest : map (λ (m : Image). m.reached) xs ≡ map (λ (m : A). later) ms = ap (drop 1) all in
-    let long : length xs ≡ length ms = sym (length-map xs (λ (m : Image). m.reached)) ∙ ap length rest ∙ length-map ms (λ (m : A). later) in (
-      ap (map f) is ∙ ap (λ (p : P). p ∷ map f xs) (kept ∙ ap f (sym first)),
-      ap (map (λ (m : Image). m.reached)) is
-          ∙ ap₂ (λ (r : ℕ) (rs : List ℕ). r ∷ rs) one (rest ∙ all_later ms 7 (omega arith))
-          ∙ ap (λ (n : ℕ). take (suc n) open_reach) (sym long)
-          ∙ sym (ap (λ (zs : List Image). take (length zs) open_reach) is),
-    )
+pub open_later : (j : ℕ) → j < 8 → j ≢ 0 → 18446744073709551614 ≡ get_or open_reach j 0
+open_later zero few later = absurd (later refl)
+open_later (suc j) few later = sym (get_or-replicate 7 j 18446744073709551614 0 (omega arith))

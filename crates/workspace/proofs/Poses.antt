@@ -1,98 +1,91 @@
--- A template posed: each gate is turned, and then their order.
-use Rattle.std.proofs.Common.{◌≡◌, ℕ, zero, suc, ◌+◌, ◌<◌, min, Bool, true, false, List, [], ◌∷◌, ◌++◌, map, reverse, length, get_or, take, drop, set, sym, refl, ap, ◌∙◌, ap₂, arith}
-use Rattle.std.specs.List.{drop-map, take-map}
-use Rattle.std.proofs.lemmas.List.{map-append, map_push, length-map, length-reverse, get_or-map, take_more, take_more_set}
-use Rattle.std.proofs.lemmas.Simd.{map-map}
-use mathlib.Core.List.{reverse-cons}
+-- The gate at each place of a posed template.
+use Rattle.std.proofs.Common.{◌≡◌, ℕ, zero, suc, ◌+◌, ◌-◌, ◌<◌, ◌≤◌, Bool, true, false, cond, ◌⊎◌, List, [], ◌∷◌, map, reverse, length, get_or, take, drop, sym, refl, ap, ◌∙◌, inl, inr, arith}
+use Rattle.std.proofs.lemmas.List.{length-map, length-reverse, length-append, length-take, length-drop, get_or-map, get_or-reverse, get_or_append_left, get_or-append_right, get_or-drop, get_or-take}
+use Rattle.std.proofs.lemmas.Bool.{cases_lt, lt-ltb, le-ltb}
 use Rattle.gates.specs.declared.gate.Gate.{Gate}
 use Rattle.gates.specs.Controls.{gate}
 use Rattle.gates.specs.Kinds.{KindMeaning}
 use Rattle.gates.specs.Cascades.{rotated, flipped_or}
-use Rattle.workspace.specs.declared.posed.Member.{Member}
 use Rattle.workspace.specs.Turns.{Placed, at_position, on_gate, placed_from, placed, directed}
-use Rattle.workspace.specs.Posing.{directed_gate, placed_of}
+use Rattle.workspace.specs.Posing.{directed_gate, rotated_place, source_place}
 
 -- what a read past the end gives
 abbrev pub no_gate : Gate
 no_gate = gate 0 0 0 0
 
-abbrev pub no_member : Placed
-no_member = at_position 0 no_gate
-
 pub placed_long : (p : ℕ) (gates : List Gate) → length (placed_from p gates) ≡ length gates
 placed_long p [] = refl
 placed_long p (g ∷ gates) = ap suc (placed_long (suc p) gates)
 
-placed_at : (p i : ℕ) (gates : List Gate) → i < length gates → get_or (placed_from p gates) i no_member ≡ at_position (p + i) (get_or gates i no_gate)
-placed_at p i [] lt = absurd (let z : ⊥ = omega arith in z)
-placed_at p zero (g ∷ gates) lt = ap (λ (q : ℕ). at_position q g) (let e : p ≡ p + 0 = omega arith in e)
-placed_at p (suc i) (g ∷ gates) lt = placed_at (suc p) i gates (omega arith) ∙ ap (λ (q : ℕ). at_position q (get_or gates i no_gate)) (let e : suc p + i ≡ p + suc i = omega arith in e)
+placed_at : (p i : ℕ) (gates : List Gate) (d : Placed) → i < length gates → get_or (placed_from p gates) i d ≡ at_position (p + i) (get_or gates i no_gate)
+placed_at p i [] d lt = absurd (let z : ⊥ = omega arith in z)
+placed_at p zero (g ∷ gates) d lt = ap (λ (q : ℕ). at_position q g) (let e : p ≡ p + 0 = omega arith in e)
+placed_at p (suc i) (g ∷ gates) d lt = placed_at (suc p) i gates d (omega arith) ∙ ap (λ (q : ℕ). at_position q (get_or gates i no_gate)) (let e : suc p + i ≡ p + suc i = omega arith in e)
 
--- what is done to each element is done to the list in another order
-map_rotated : {X Y : Type 0} (h : X → Y) (r : ℕ) (xs : List X) → map h (rotated r xs) ≡ rotated r (map h xs)
-map_rotated h r xs = map-append h (drop r xs) (take r xs) ∙ ap₂ ◌++◌ (sym (drop-map h r xs)) (sym (take-map h r xs))
+directed_long : (k : KindMeaning) (back : Bool) (xs : List Placed) → length (directed k back xs) ≡ length xs
+directed_long k true xs = length-map (reverse xs) (on_gate k.inverse) ∙ length-reverse xs
+directed_long k false xs = refl
 
--- a rotation by more than the length is none, as one by the length is
-drop_least : {X : Type 0} (r : ℕ) (xs : List X) → drop (min r (length xs)) xs ≡ drop r xs
-drop_least zero xs = ap (λ (m : ℕ). drop m xs) (let e : min 0 (length xs) ≡ 0 = omega arith in e)
-drop_least (suc r) [] = ap (λ (m : ℕ). drop m []) (let e : min (suc r) 0 ≡ 0 = omega arith in e)
-drop_least (suc r) (x ∷ xs) = ap (λ (m : ℕ). drop m (x ∷ xs)) (let e : min (suc r) (suc (length xs)) ≡ suc (min r (length xs)) = omega arith in e) ∙ drop_least r xs
+-- where the gate at a place of the directed list comes from
+turned_round : Bool → ℕ → ℕ → ℕ
+turned_round back m i = cond back (m - 1 - i) i
 
-take_least : {X : Type 0} (r : ℕ) (xs : List X) → take (min r (length xs)) xs ≡ take r xs
-take_least zero xs = ap (λ (m : ℕ). take m xs) (let e : min 0 (length xs) ≡ 0 = omega arith in e)
-take_least (suc r) [] = ap (λ (m : ℕ). take m []) (let e : min (suc r) 0 ≡ 0 = omega arith in e)
-take_least (suc r) (x ∷ xs) = ap (λ (m : ℕ). take m (x ∷ xs)) (let e : min (suc r) (suc (length xs)) ≡ suc (min r (length xs)) = omega arith in e) ∙ ap (◌∷◌ x) (take_least r xs)
+module _ (k : KindMeaning) (gates : List Gate) where
+  directed_at : (back : Bool) (i : ℕ) (d : Placed) → i < length gates
+      → get_or (directed k back (placed gates)) i d ≡ at_position (turned_round back (length gates) i) (directed_gate k back (get_or gates (turned_round back (length gates) i) no_gate))
+  unfolding turned_round
+  directed_at false i d lt = placed_at 0 i gates d lt ∙ ap (λ (q : ℕ). at_position q (get_or gates i no_gate)) (let e : 0 + i ≡ i = omega arith in e)
+  directed_at true i d lt =
+      let m = length gates in
+      let long : length (placed gates) ≡ m = placed_long 0 gates in
+      let q = m - 1 - i in
+      get_or-map (on_gate k.inverse) (reverse (placed gates)) i d d (omega (arith, length-reverse (placed gates)))
+      ∙ ap (on_gate k.inverse)
+      (get_or-reverse (placed gates) i d (omega arith)
+      ∙ ap (λ (n : ℕ). get_or (placed gates) (n - 1 - i) d) long
+      ∙ placed_at 0 q gates d (omega arith)
+      ∙ ap (λ (n : ℕ). at_position n (get_or gates q no_gate)) (let e : 0 + q ≡ q = omega arith in e))
 
-pub rotated_least : {X : Type 0} (r : ℕ) (xs : List X) → rotated (min r (length xs)) xs ≡ rotated r xs
-rotated_least r xs = ap₂ ◌++◌ (drop_least r xs) (take_least r xs)
+-- a rotation by more than the length is none
+rotated_at : {X : Type 0} (r : ℕ) (xs : List X) (j m : ℕ) (d : X) → length xs ≡ m → j < m → get_or (rotated r xs) j d ≡ get_or xs (rotated_place m r j) d
+rotated_at r xs j m d long lt = at (cases_lt j (m - r))
+  where
+    at : (j < m - r) ⊎ (m - r ≤ j) → get_or (rotated r xs) j d ≡ get_or xs (rotated_place m r j) d
+    at (inl before) =
+        get_or_append_left (drop r xs) (take r xs) d j (omega (arith, length-drop r xs))
+        ∙ get_or-drop r xs j d
+        ∙ ap (λ (b : Bool). get_or xs (cond b (r + j) (j - (m - r))) d) (sym (lt-ltb j (m - r) before))
+    at (inr behind) =
+        get_or-append_right (drop r xs) (take r xs) (m - r) j d (length-drop r xs ∙ omega arith) behind
+        ∙ get_or-take r xs (j - (m - r)) d (omega arith)
+        ∙ ap (λ (b : Bool). get_or xs (cond b (r + j) (j - (m - r))) d) (sym (le-ltb j (m - r) behind))
 
-map-reverse : {X Y : Type 0} (h : X → Y) (xs : List X) → map h (reverse xs) ≡ reverse (map h xs)
-map-reverse h [] = refl
-map-reverse h (x ∷ xs) =
-    ap (map h) (reverse-cons x xs) ∙ map_push h (reverse xs) x ∙ ap (λ (ys : List _). ys ++ h x ∷ []) (map-reverse h xs) ∙ sym (reverse-cons (h x) (map h xs))
+rotated_in : (m r j : ℕ) → j < m → rotated_place m r j < m
+rotated_in m r j lt = at (cases_lt j (m - r))
+  where
+    at : (j < m - r) ⊎ (m - r ≤ j) → rotated_place m r j < m
+    at (inl before) = rw (lt-ltb j (m - r) before) (omega arith)
+    at (inr behind) = rw (le-ltb j (m - r) behind) (omega arith)
 
-module _ (k : KindMeaning) (gates : List Gate) (back : Bool) (flips : ℕ) where
-  -- the gates, each in its direction and flipped, in the template's order
-  abbrev pub each_posed : List Placed
-  each_posed = map (on_gate (λ g. flipped_or k flips (directed_gate k back g))) (placed gates)
+-- the gates posed
+abbrev pub posed_gates : KindMeaning → List Gate → Bool → ℕ → ℕ → List Placed
+posed_gates k gates back r f = map (on_gate (flipped_or k f)) (rotated r (directed k back (placed gates)))
 
-  pub each_long : length each_posed ≡ length gates
-  each_long = length-map (placed gates) (on_gate (λ g. flipped_or k flips (directed_gate k back g))) ∙ placed_long 0 gates
+module _ (k : KindMeaning) (gates : List Gate) (back : Bool) (r f : ℕ) where
+  pub posed_long : length (posed_gates k gates back r f) ≡ length gates
+  posed_long =
+      let xs = directed k back (placed gates) in
+      length-map (rotated r xs) (on_gate (flipped_or k f))
+      ∙ length-append (drop r xs) (take r xs)
+      ∙ omega (arith, length-drop r xs, length-take r xs, directed_long k back (placed gates), placed_long 0 gates)
 
-  -- one gate more
-  pub each_more : (members : List Member) (i : ℕ) (g : Gate) → i < length members → i < length gates → g ≡ flipped_or k flips (directed_gate k back (get_or gates i no_gate))
-      → placed_of (take i members) ≡ take i each_posed → placed_of (take (i + 1) (set members i record { position = i; gate = g })) ≡ take (i + 1) each_posed
-  each_more members i g room lt is before =
-      let long : length (placed gates) ≡ length gates = placed_long 0 gates in
-      ap placed_of (take_more_set members i record { position = i; gate = g } room)
-      ∙ map_push (λ (m : Member). at_position m.position m.gate) (take i members) record { position = i; gate = g }
-      ∙ ap₂ (λ (front : List Placed) (x : Placed). front ++ x ∷ []) before
-      (ap₂ at_position (let e : i ≡ 0 + i = omega arith in e) is
-      ∙ ap (on_gate (λ g. flipped_or k flips (directed_gate k back g))) (sym (placed_at 0 i gates lt))
-      ∙ sym (get_or-map (on_gate (λ g. flipped_or k flips (directed_gate k back g))) (placed gates) i no_member no_member (omega arith)))
-      ∙ sym (take_more each_posed i no_member (omega (arith, each_long)))
-
--- the members in the order of their direction
-abbrev pub in_order : Bool → List Member → List Member
-in_order true members = reverse members
-in_order false members = members
-
-pub in_order_long : (back : Bool) (members : List Member) → length (in_order back members) ≡ length members
-in_order_long true members = length-reverse members
-in_order_long false members = refl
-
--- and rotated, they are the template posed
-pub posed_is : (k : KindMeaning) (gates : List Gate) (back : Bool) (r flips : ℕ) (members : List Member) → placed_of members ≡ each_posed k gates back flips
-    → placed_of (rotated r (in_order back members)) ≡ map (on_gate (flipped_or k flips)) (rotated r (directed k back (placed gates)))
-posed_is k gates true r flips members is =
-    map_rotated (λ (m : Member). at_position m.position m.gate) r (reverse members)
-    ∙ ap (rotated r)
-    (map-reverse (λ (m : Member). at_position m.position m.gate) members
-    ∙ ap reverse is
-    ∙ sym (map-reverse (on_gate (λ g. flipped_or k flips (k.inverse g))) (placed gates))
-    ∙ sym (map-map (on_gate (flipped_or k flips)) (on_gate k.inverse) (reverse (placed gates))))
-    ∙ sym (map_rotated (on_gate (flipped_or k flips)) r (directed k true (placed gates)))
-posed_is k gates false r flips members is =
-    map_rotated (λ (m : Member). at_position m.position m.gate) r members
-    ∙ ap (rotated r) is
-    ∙ sym (map_rotated (on_gate (flipped_or k flips)) r (placed gates))
+  pub posed_at : (j : ℕ) (d : Placed) → j < length gates
+      → get_or (posed_gates k gates back r f) j d
+      ≡ at_position (source_place (length gates) back r j) (flipped_or k f (directed_gate k back (get_or gates (source_place (length gates) back r j) no_gate)))
+  unfolding turned_round
+  posed_at j d lt =
+      let m = length gates in
+      let xs = directed k back (placed gates) in
+      let long : length xs ≡ m = directed_long k back (placed gates) ∙ placed_long 0 gates in
+      get_or-map (on_gate (flipped_or k f)) (rotated r xs) j d d (omega (arith, length-append (drop r xs) (take r xs), length-drop r xs, length-take r xs))
+      ∙ ap (on_gate (flipped_or k f)) (rotated_at r xs j m d long lt ∙ directed_at k gates back (rotated_place m r j) d (rotated_in m r j lt))

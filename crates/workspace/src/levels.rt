@@ -61,8 +61,9 @@ fn is_mapped(key: &Key, x: &Line) -> bool
     ensures { result ≡ has_number_lem (drop BEFORE_MAP (keyed key.now)) x.now.number }
 {
     key.as_slice()
-        .get(BEFORE_MAP..)
-        .is_some_and(|images| images.contains(&u16::from(x.number)))
+        .iter()
+        .skip(BEFORE_MAP)
+        .any(|image| *image == u16::from(x.number))
 }
 
 // Whether the image of the gate can still stand somewhere, where line x is the image of the line.
@@ -76,10 +77,9 @@ fn can_still_stand<K: GateKind>(start: &Start<K>, image: Image, line: u8, x: &Li
 fn is_possible<K: GateKind>(start: &Start<K>, note: &Note, few: usize, line: u8, x: &Line) -> bool
     ensures { result ≡ possible K.means (contents start.now.frame) note.now few line x.now.number }
 {
-    note.images
-        .as_slice()
+    let images = note.images.as_slice();
+    images[..few.min(images.len())]
         .iter()
-        .take(few)
         .all(|image| can_still_stand::<K>(start, *image, line, x))
 }
 

@@ -87,28 +87,30 @@ impl<S: Store> Problem for Holdings<S> {
         let Some(template) = self.template_of_key(key) else {
             return *above;
         };
-        match key.len().checked_sub(BEFORE_MAP) {
-            None => *above,
-            Some(0) => noting::posed_note::<S::Kind>(
+        let Some(behind) = key.len().checked_sub(BEFORE_MAP) else {
+            return *above;
+        };
+        if behind == 0 {
+            return noting::posed_note::<S::Kind>(
                 template,
                 Pose {
                     back: key.at(3) == 1,
                     rotation: usize::from(key.at(4)),
                     flips: LineSet::from(key.at(5)),
                 },
-            ),
-            Some(behind) => {
-                let line = behind - 1;
-                let last = usize::from(key.at(BEFORE_MAP + line));
-                if line >= usize::from(template.lines()) {
-                    return above.with_distance(last);
-                }
-                match Line::try_from(last) {
-                    Err(_) => *above,
-                    Ok(x) => above.narrowed::<S::Kind>(start, line as u8, &x),
-                }
-            }
+            );
         }
+        let line = behind - 1;
+        let last = usize::from(key.at(BEFORE_MAP + line));
+        if line >= usize::from(template.lines()) {
+            return above.with_distance(last);
+        }
+        let Ok(x) = Line::try_from(last) else {
+            return *above;
+        };
+        let mut note = *above;
+        note.narrow::<S::Kind>(start, line as u8, &x);
+        note
     }
 
     fn is_whole(&self, start: &Start<S::Kind>, note: &Note, key: &Key) -> bool {

@@ -13,10 +13,14 @@ use super::notes::{Image, Note};
 use super::posed::Pose;
 use super::start::Start;
 use super::{Template, posing};
+use fixed_list::FixedList;
 use gates::GateKind;
 use search::candidates;
 
-// All distances but that of the first place itself.
+// The distance of the first place itself.
+const FIRST: u64 = 1;
+
+// All distances but that.
 const LATER: u64 = !1;
 
 // The note of a template as it is posed: the first gate stands at the first place, the others anywhere behind it.
@@ -25,16 +29,18 @@ pub(crate) fn posed_note<K: GateKind>(template: &Template, pose: Pose) -> Note
     ensures reaches { map (λ m. m.reached) (contents result.images) ≡ take (length (contents result.images)) open_reach }
     ensures chooses { result.chosen ≡ 1 }
 {
-    let posed = posing::pose::<K>(template, pose);
-    let mut images = posed.map(
-        Image::BLANK,
-        |member| Image {
-            member,
-            reached: LATER,
-        },
-    );
-    images.change(0, |image| image.reached = 1);
-    Note { images, chosen: 1 }
+    let mut images = FixedList::new(Image::BLANK);
+    for place in 0..template.size() {
+        let image = Image {
+            member: posing::pose_member::<K>(template, pose, place),
+            reached: if place == 0 { FIRST } else { LATER },
+        };
+        let _ = images.push(image);
+    }
+    Note {
+        images,
+        chosen: FIRST,
+    }
 }
 
 impl Image {
@@ -51,16 +57,14 @@ impl Image {
 }
 
 impl Note {
-    // The note after line x became the image of the line.
-    pub(crate) fn narrowed<K: GateKind>(&self, start: &Start<K>, line: u8, x: &Line) -> Note
-        ensures poses { members_in result.images ≡ members_in self.now.images }
-        ensures reaches { AllZip (Narrows K.means (contents start.now.frame) line x.now.number) (contents self.now.images) (contents result.images) }
-        ensures chooses { result.chosen ≡ self.now.chosen }
+    // Narrows each image, after line x became the image of the line.
+    pub(crate) fn narrow<K: GateKind>(&mut self, start: &Start<K>, line: u8, x: &Line)
+        ensures poses { members_in self.new.images ≡ members_in self.old.images }
+        ensures reaches { AllZip (Narrows K.means (contents start.now.frame) line x.now.number) (contents self.old.images) (contents self.new.images) }
+        ensures chooses { self.new.chosen ≡ self.old.chosen }
     {
-        let images = self
-            .images
-            .map(Image::BLANK, |image| image.narrowed::<K>(start, line, x));
-        Note { images, ..*self }
+        self.images
+            .turn_each(|image| image.narrowed::<K>(start, line, x));
     }
 
     // The note after one more distance was chosen.

@@ -1,49 +1,31 @@
-use Rattle.std.proofs.Common.{◌≡◌, ℕ, Bool, min, List, map, length, take, sym, ap, ◌∙◌, ap₂, arith, length-set}
+use Rattle.std.proofs.Common.{◌<◌, length, ap, ◌∙◌, arith}
+use Rattle.std.proofs.lemmas.List.{take_all}
 use Rattle.fixed_list.specs.Lists.{contents}
-use Rattle.std.proofs.lemmas.List.{take_all, length-take}
-use Rattle.gates.specs.declared.gate.Gate.{Gate}
-use Rattle.gates.specs.Cascades.{rotated, flipped_or}
 use Rattle.workspace.specs.declared.posed.Member.{Member}
+use Rattle.workspace.specs.Matching.{posed}
 use Rattle.workspace.specs.Posing.{placed_of}
-use Rattle.workspace.specs.Turns.{on_gate, placed, directed}
-use Rattle.workspace.proofs.Poses.{each_posed, each_long, each_more, in_order, in_order_long, rotated_least, posed_is}
+use Rattle.workspace.specs.Proposals.{template_of}
+use Rattle.workspace.specs.Turns.{at_position}
+use Rattle.workspace.proofs.Images.{filled_next}
+use Rattle.workspace.proofs.Poses.{no_gate, posed_long}
 use Rattle.workspace.proofs.posing.pose.Goals as goal
-use Rattle.workspace.proofs.posing.pose.Goals.{then-pose, else-pose}
 
-pub loop-position-preserved : goal.loop-position-preserved
-loop-position-preserved g c =
-    let i = c.loop-position.position in
-    let members = c.loop-position.members in
-    let gates = c.gates-gates.result.now in
-    let sized : c.size-size.result ≡ length gates = c.size-size.ensures.is ∙ sym (ap length c.gates-gates.ensures.is) in
-    record {
-      long = length-set members i _ ∙ c.loop-position.invariant.long;
-      front = each_more g.K.GateKind.means gates c.args.pose.back c.args.pose.flips members i c.pose_gate-gate.result (omega (arith, c.loop-position.invariant.long, c.loop-position-test.true, c.size-size.ensures.few)) c.loop-position-test.true c.pose_gate-gate.ensures c.loop-position.invariant.front;
-    }
+pub loop-place-preserved : goal.loop-place-preserved
+loop-place-preserved g c =
+    let k = g.K.GateKind.means in
+    let t = template_of c.args.template.now in
+    let p = c.args.pose in
+    let whole = posed k t p.back p.rotation p.flips in
+    let blank = at_position 0 no_gate in
+    let inside : c.loop-place.place < length whole = omega (arith, posed_long k t.gates p.back p.rotation p.flips, c.loop-place-test.true, c.size-place-end.ensures.is) in
+    let room : c.loop-place.place < 8 = omega (arith, c.loop-place-test.true, c.size-place-end.ensures.few) in
+    ap placed_of c.push.ensures.leaves
+    ∙ filled_next (λ (m : Member). at_position m.position m.gate) 8 (contents c.loop-place.members) c.pose_member.result whole c.loop-place.place blank room inside c.loop-place.invariant (c.pose_member.ensures blank)
 
 pub returns : goal.returns
 returns g c =
     let k = g.K.GateKind.means in
-    let gates = c.gates-gates.result.now in
-    let back = c.args.pose.back in
-    let r = c.args.pose.rotation in
-    let flips = c.args.pose.flips in
-    let size = c.size-size.result in
-    let sized : size ≡ length gates = c.size-size.ensures.is ∙ sym (ap length c.gates-gates.ensures.is) in
-    let members = take size c.loop-position.members in
-    let long : length members ≡ size = omega (arith, length-take size c.loop-position.members, c.loop-position.invariant.long, c.size-size.ensures.few) in
-    let at-end : c.loop-position.position ≡ size = omega (arith, c.loop-position-test.false, c.loop-position.auto.position-end) in
-    let each : placed_of members ≡ each_posed k gates back flips =
-    ap (λ (i : ℕ). placed_of (take i c.loop-position.members)) (sym at-end) ∙ c.loop-position.invariant.front
-    ∙ take_all c.loop-position.position (each_posed k gates back flips) (omega (arith, each_long k gates back flips)) in
-    let ordered : c.if-pose.counted ≡ in_order back members =
-    elim c.if-pose.branch [
-      | then-pose w ↦ w.counted-is ∙ w.reverse.ensures.after ∙ ap (λ (b : Bool). in_order b members) (sym w.if-pose.true)
-      | else-pose w ↦ w.counted-is ∙ ap (λ (b : Bool). in_order b members) (sym w.if-pose.false)
-    ] in
-    let whole : contents c.of.result ≡ take 8 c.rotate_left.new.self = c.of.ensures in
-    let same : c.min.result ≡ min r (length (in_order back members)) = c.min.ensures ∙ ap (min r) (sym (in_order_long back members ∙ long)) in
-    let turned : c.rotate_left.new.self ≡ rotated r (in_order back members) = c.rotate_left.ensures.after ∙ ap₂ (λ (m : ℕ) (xs : List Member). rotated m xs) same ordered ∙ rotated_least r (in_order back members) in
-    ap placed_of (whole ∙ take_all 8 c.rotate_left.new.self (omega (arith, c.rotate_left.ensures.len, c.if-pose.auto.counted, long, c.size-size.ensures.few)) ∙ turned)
-    ∙ posed_is k gates back r flips members each
-    ∙ ap (λ (gs : List Gate). map (on_gate (flipped_or k flips)) (rotated r (directed k back (placed gs)))) c.gates-gates.ensures.is
+    let t = template_of c.args.template.now in
+    let p = c.args.pose in
+    let whole = posed k t p.back p.rotation p.flips in
+    c.loop-place.invariant ∙ take_all c.loop-place.place whole (omega (arith, posed_long k t.gates p.back p.rotation p.flips, c.loop-place-test.false, c.size-place-end.ensures.is))

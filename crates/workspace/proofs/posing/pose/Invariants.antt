@@ -1,11 +1,10 @@
-use Rattle.std.proofs.Common.{◌≡◌, length, take}
+use Rattle.std.proofs.Common.{◌≡◌, take}
+use Rattle.fixed_list.specs.Lists.{contents}
+use Rattle.workspace.specs.Matching.{posed}
 use Rattle.workspace.specs.Posing.{placed_of}
-use Rattle.workspace.proofs.Poses.{each_posed}
+use Rattle.workspace.specs.Proposals.{template_of}
 use Rattle.workspace.proofs.posing.pose.Given as goal
 
--- the gates so far are each posed
-abbrev pub invariant-loop-position : goal.invariant-loop-position
-invariant-loop-position g l = record {
-  long : length l.members ≡ 8;
-  front : placed_of (take l.position l.members) ≡ take l.position (each_posed g.K.GateKind.means l.gates l.pose.back l.pose.flips);
-}
+-- the members so far are the first of the posed gates
+abbrev pub invariant-loop-place : goal.invariant-loop-place
+invariant-loop-place g l = placed_of (contents l.members) ≡ take l.place (posed g.K.GateKind.means (template_of l.template) l.pose.back l.pose.rotation l.pose.flips)
