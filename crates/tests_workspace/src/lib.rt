@@ -6,6 +6,8 @@ mod allowed;
 #[cfg(test)]
 mod bench;
 #[cfg(test)]
+mod callers;
+#[cfg(test)]
 mod edits;
 #[cfg(test)]
 mod examples;
