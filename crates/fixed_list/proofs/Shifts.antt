@@ -1,9 +1,9 @@
 -- Lists in arrays: what moving the later items up leaves.
-use Rattle.std.proofs.Common.{◌≡◌, ℕ, subst, get_or, zero, suc, [], ◌∷◌, refl, set, ◌+◌, ◌-◌, ◌<◌, ◌≤◌, Bool, true, false, nat_lt, List, ◌++◌, length, take, drop, min, sym, ap, ap₂, ◌∙◌, arith, cond}
+use Rattle.std.proofs.Common.{◌≡◌, ℕ, subst, get_or, zero, suc, [], ◌∷◌, refl, set, ◌+◌, ◌-◌, ◌<◌, ◌≤◌, Bool, true, false, nat_lt, List, ◌++◌, length, take, drop, sym, ap, ap₂, ◌∙◌, arith, cond}
 use Rattle.std.specs.List.{AllZip, copy_within, remove}
 use Rattle.std.proofs.lemmas.Slice.Zip.{AllZip-long}
 use Rattle.std.proofs.lemmas.Bool.{lt-ltb, ltb-true, ltb_from_iff}
-use Rattle.std.proofs.lemmas.List.{drop-take, take-take, take_min, take_more, take_more_set, length-drop, length-take, length-take-le}
+use Rattle.std.proofs.lemmas.List.{drop-take, take-take, take_all, take_more, take_more_set, length-drop, length-take-le}
 use Rattle.std.proofs.lemmas.List.Edits.{take-paste}
 use Rattle.fixed_list.specs.Lists.{pushed, removed}
 
@@ -48,14 +48,20 @@ turned_next R xs ys i d y inside room zipped one =
     subst (λ (zs : List _). AllZip R zs (take (i + 1) (set ys i y))) (sym (take_more xs i d inside))
     (subst (AllZip R (take i xs ++ get_or xs i d ∷ [])) (sym (take_more_set ys i y room)) (zip_more R (take i xs) (take i ys) (get_or xs i d) y zipped one))
 
--- all items that count are turned
-pub turned_all : {A B : Type 0} (R : A → B → Type 0) (xs : List A) (ys : List B) (i m n : ℕ) → i ≡ length (take m xs) → n ≡ m → length ys ≡ length xs
+-- what holds of the items of two lists holds of their first ones
+zip_first : {A B : Type 0} (R : A → B → Type 0) (m : ℕ) (xs : List A) (ys : List B) → AllZip R xs ys → AllZip R (take m xs) (take m ys)
+zip_first R zero xs ys zipped = tt
+zip_first R (suc m) [] [] zipped = tt
+zip_first R (suc m) [] (y ∷ ys) zipped = absurd zipped
+zip_first R (suc m) (x ∷ xs) [] zipped = absurd zipped
+zip_first R (suc m) (x ∷ xs) (y ∷ ys) zipped = (zipped.0, zip_first R m xs ys zipped.1)
+
+-- all items are turned, and so are those that count
+pub turned_all : {A B : Type 0} (R : A → B → Type 0) (xs : List A) (ys : List B) (i m n : ℕ) → length xs ≤ i → length ys ≡ length xs → n ≡ m
     → AllZip R (take i xs) (take i ys) → AllZip R (take m xs) (take n ys)
-turned_all R xs ys i m n is same long zipped =
-    let before : take i xs ≡ take m xs = ap (λ (k : ℕ). take k xs) (is ∙ length-take m xs) ∙ take_min m xs in
-    let counted : min m (length xs) ≡ min n (length ys) = omega (arith, same, long) in
-    let after : take i ys ≡ take n ys = ap (λ (k : ℕ). take k ys) (is ∙ length-take m xs ∙ counted) ∙ take_min n ys in
-    subst (λ (zs : List _). AllZip R zs (take n ys)) before (subst (AllZip R (take i xs)) after zipped)
+turned_all R xs ys i m n past long same zipped =
+    subst (λ k. AllZip R (take m xs) (take k ys)) (sym same)
+    (zip_first R m xs ys (subst (AllZip R xs) (take_all i ys (omega arith)) (subst (λ zs. AllZip R zs (take i ys)) (take_all i xs past) zipped)))
 
 -- an item behind the first ones of a list, where there is room
 pub pushed_first : {T : Type 0} (most : ℕ) (xs : List T) (x : T) → pushed most (take most xs) x ≡ take most (xs ++ x ∷ [])

@@ -102,12 +102,12 @@ impl<T: Copy, const N: usize> FixedList<T, N> {
         turned
     }
 
-    // Turns each item into another, where it stands.
+    // Turns each item into another, where it stands. What stands behind them is turned too: a loop of `N` turns can be laid out flat.
     pub fn turn_each<F: Fn(T) -> T>(&mut self, turn: F)
         requires { F.IsAlwaysCallable turn }
         ensures { AllZip (F.post turn) (contents self.old) (contents self.new) }
     {
-        for place in 0..self.len() {
+        for place in 0..N {
             self.items[place] = turn(self.items[place]);
         }
     }

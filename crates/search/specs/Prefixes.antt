@@ -2,16 +2,17 @@
 use Rattle.std.specs.Prelude.{ℕ, List, is_some}
 use Rattle.std.specs.ControlFlow.{break_value}
 use Rattle.std.specs.declared.ops.ControlFlow.{ControlFlow}
-use Rattle.search.specs.declared.prefix.Prefix.{Prefix}
+use Rattle.search.specs.declared.branch.Branch.{Branch}
+use Rattle.search.specs.declared.key.Key.{Key}
 use Rattle.search.specs.declared.showing.Showing.{Showing}
 use Rattle.search.specs.declared.walk.Problem.{Ghosts}
 use Rattle.search.specs.Keys.{held}
 use Rattle.search.specs.Listing.{FitsAt}
 use Rattle.search.specs.Policy.{Standing, standing}
 
--- a step of the search may rely on the prefix
-abbrev pub FitsPrefix : {Q X Y : Type 0} → Ghosts Q X Y → Prefix Q X Y → Type 0
-FitsPrefix problem prefix = FitsAt problem.sound problem.started problem.noted prefix.problem.now prefix.key.now prefix.start.now prefix.note.now
+-- a step of the search may rely on the key and its note, in that branch
+abbrev pub FitsBranch : {Q X Y : Type 0} → Ghosts Q X Y → Branch Q X Y → Key → Y → Type 0
+FitsBranch problem branch key note = FitsAt problem.sound problem.started problem.noted branch.problem.now key branch.start.now note
 
 -- where the policy stands; a break says that it closed
 abbrev pub stands : {P : Type 0} → (P → List ℕ) → ControlFlow (Unit {0}) (Unit {0}) → Showing P → Standing (List ℕ)

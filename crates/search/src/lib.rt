@@ -1,13 +1,13 @@
 // Policies, and the search that shows a policy all keys that occur, in rank order.
 #![tactic(auto)]
 
+mod branch;
 pub mod candidates;
 mod earliest;
 mod key;
 mod largest;
 mod policies;
 mod policy;
-mod prefix;
 mod showing;
 mod walk;
 

@@ -5,10 +5,10 @@ ghost use Rattle.std.specs.declared.ops.ControlFlow.TheVariants.{Continue};
 ghost use Rattle.search.specs.Keys.{held, keyed};
 ghost use Rattle.search.specs.Listing.{Passes, Searched, StartsFrom, alone, shown_under};
 ghost use Rattle.search.specs.Policy.{opening, scan};
-ghost use Rattle.search.specs.Prefixes.{FitsPrefix, stands};
+ghost use Rattle.search.specs.Prefixes.{FitsBranch, stands};
 
+use super::branch::Branch;
 use super::candidates::Numbers;
-use super::prefix::Prefix;
 use super::{Key, Policy, Problem, Reply};
 use std::ops::ControlFlow;
 
@@ -33,40 +33,50 @@ impl<'a, P: Policy> Showing<'a, P> {
     }
 
     // Shows the policy a whole key, if it occurs; breaks at a close.
-    fn visit<Q: Problem>(&mut self, prefix: &Prefix<Q>) -> ControlFlow<()>
+    fn visit<Q: Problem>(
+        &mut self,
+        branch: &Branch<Q>,
+        note: &Q::Note,
+        key: &Key,
+    ) -> ControlFlow<()>
         ensures same { self.new.policy.ghost_name ≡ self.old.policy.ghost_name }
-        ensures shows { FitsPrefix Q.Problem prefix.now → stands P.kept result self.new
-            ≡ scan P.rule (Q.view prefix.now.problem.now) (stands P.kept (Continue tt) self.old) (alone (Q.test prefix.now.problem.now) (keyed prefix.now.key.now)) }
+        ensures shows { FitsBranch Q.Problem branch.now key.now note.now → stands P.kept result self.new
+            ≡ scan P.rule (Q.view branch.now.problem.now) (stands P.kept (Continue tt) self.old) (alone (Q.test branch.now.problem.now) (keyed key.now)) }
     {
-        let Some(shown) = prefix.shown() else {
+        let Some(shown) = branch.shown(note, key) else {
             return ControlFlow::Continue(());
         };
         match self.policy.show(shown) {
             Reply::Leave => ControlFlow::Continue(()),
             Reply::Take => {
-                self.taken = Some(*prefix.key);
+                self.taken = Some(*key);
                 ControlFlow::Continue(())
             }
             Reply::Close => {
-                self.taken = Some(*prefix.key);
+                self.taken = Some(*key);
                 ControlFlow::Break(())
             }
         }
     }
 
-    // Shows the policy, in rank order, what occurs of the keys that begin with the prefix; breaks at a close.
-    pub(crate) fn descend<Q: Problem>(&mut self, prefix: Prefix<Q>) -> ControlFlow<()>
+    // Shows the policy, in rank order, what occurs of the keys that begin with this one; breaks at a close.
+    fn descend<Q: Problem>(
+        &mut self,
+        branch: &Branch<Q>,
+        note: &Q::Note,
+        key: &Key,
+    ) -> ControlFlow<()>
         ensures same { self.new.policy.ghost_name ≡ self.old.policy.ghost_name }
-        ensures shows { FitsPrefix Q.Problem prefix.entry → stands P.kept result self.new
-            ≡ shown_under P.rule (Q.view prefix.entry.problem.now) (Q.test prefix.entry.problem.now) (keyed prefix.entry.key.now) (stands P.kept (Continue tt) self.old) }
+        ensures shows { FitsBranch Q.Problem branch.now key.now note.now → stands P.kept result self.new
+            ≡ shown_under P.rule (Q.view branch.now.problem.now) (Q.test branch.now.problem.now) (keyed key.now) (stands P.kept (Continue tt) self.old) }
     {
-        if prefix.is_last() {
-            return self.visit(&prefix);
+        if branch.is_last(note, key) {
+            return self.visit(branch, note, key);
         }
-        for number in Numbers::of(prefix.candidates()) {
-            let key = prefix.key.with(number);
-            let note = prefix.longer_note(&key);
-            self.descend(prefix.longer(&note, &key))?;
+        for number in Numbers::of(branch.candidates(note, key)) {
+            let longer = key.with(number);
+            let deeper = branch.problem.note(branch.start, note, &longer);
+            self.descend(branch, &deeper, &longer)?;
         }
         ControlFlow::Continue(())
     }
@@ -89,10 +99,11 @@ impl<'a, P: Policy> Showing<'a, P> {
             let key = Key::new().with(first);
             let start = problem.start(first);
             let note = problem.note(&start, &blank, &key);
-            if self
-                .descend(Prefix::first(problem, &start, &note, &key))
-                .is_break()
-            {
+            let branch = Branch {
+                problem,
+                start: &start,
+            };
+            if self.descend(&branch, &note, &key).is_break() {
                 return lowest;
             }
         }

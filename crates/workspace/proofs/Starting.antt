@@ -61,22 +61,22 @@ module _ (k : KindMeaning) (frame : List Gate) (count : ℕ) (few : count ≤ 32
       by (inl lt) = ap (λ (b : Bool). ltb i (length frame) && (ltb after i && b)) (blockers_within chosen i lt)
       by (inr ge) = and_left (ltb i (length frame)) _ (le-ltb i _ ge) ∙ sym (and_left (ltb i (length frame)) _ (le-ltb i _ ge))
 
-  -- the sets that agree with each role, together
-  pub roles_agree : (t : Gate) (line x all positive negative targets : ℕ) (has : RoleSets) → HasRoles k frame x has → IsSet all (λ i. ltb i count)
-      → IsSet positive (λ i. beq (bit has.positive i) (bit t.positive line))
-      → IsSet negative (λ i. beq (bit has.negative i) (bit t.negative line))
-      → IsSet targets (λ i. beq (bit has.targets i) (bit (k.targets t) line))
-      → IsSet (bit_and all (bit_and positive (bit_and negative targets))) (λ d. ltb d (length frame) && same_role k t line (at_distance frame d) x)
-  roles_agree t line x all positive negative targets has h a p n q i il =
-      bit-bit_and all _ i
-      ∙ ap₂ ◌&&◌ (a i il ∙ ap (ltb i) (sym (long)))
-      (bit-bit_and positive _ i ∙ ap₂ ◌&&◌ (p i il ∙ ap (λ (b : Bool). beq b (bit t.positive line)) (h.positive i il))
-      (bit-bit_and negative _ i ∙ ap₂ ◌&&◌ (n i il ∙ ap (λ (b : Bool). beq b (bit t.negative line)) (h.negative i il)) (q i il ∙ ap (λ (b : Bool). beq b (bit (k.targets t) line)) (h.targets i il))))
-      ∙ inside (ltb i (length frame)) (bit w.positive x) (bit w.negative x) (bit (k.targets w) x) (bit t.positive line) (bit t.negative line) (bit (k.targets t) line)
-    where
-      w : Gate
-      w = at_distance frame i
+-- the sets that agree with each role, together
+pub roles_agree : (k : KindMeaning) (frame : List Gate) (t : Gate) (line x positive negative targets : ℕ) (has : RoleSets) → HasRoles k frame x has
+    → IsSet positive (λ i. beq (bit has.positive i) (bit t.positive line))
+    → IsSet negative (λ i. beq (bit has.negative i) (bit t.negative line))
+    → IsSet targets (λ i. beq (bit has.targets i) (bit (k.targets t) line))
+    → IsSet (bit_and has.all (bit_and positive (bit_and negative targets))) (λ d. ltb d (length frame) && same_role k t line (at_distance frame d) x)
+roles_agree k frame t line x positive negative targets has h p n q i il =
+    bit-bit_and has.all _ i
+    ∙ ap₂ ◌&&◌ (h.all i il)
+    (bit-bit_and positive _ i ∙ ap₂ ◌&&◌ (p i il ∙ ap (λ (b : Bool). beq b (bit t.positive line)) (h.positive i il))
+    (bit-bit_and negative _ i ∙ ap₂ ◌&&◌ (n i il ∙ ap (λ (b : Bool). beq b (bit t.negative line)) (h.negative i il)) (q i il ∙ ap (λ (b : Bool). beq b (bit (k.targets t) line)) (h.targets i il))))
+    ∙ inside (ltb i (length frame)) (bit w.positive x) (bit w.negative x) (bit (k.targets w) x) (bit t.positive line) (bit t.negative line) (bit (k.targets t) line)
+  where
+    w : Gate
+    w = at_distance frame i
 
-      inside : (c x y z u v s : Bool) → (c && (beq (c && x) u && (beq (c && y) v && beq (c && z) s))) ≡ (c && (beq x u && (beq y v && beq z s)))
-      inside true x y z u v s = refl
-      inside false x y z u v s = refl
+    inside : (c x y z u v s : Bool) → (c && (beq (c && x) u && (beq (c && y) v && beq (c && z) s))) ≡ (c && (beq x u && (beq y v && beq z s)))
+    inside true x y z u v s = refl
+    inside false x y z u v s = refl

@@ -55,9 +55,13 @@ some_of set P = not (every_below 64 (λ d. not (bit set d && P d)))
 abbrev pub gate_of_lem : Note → ℕ → Gate
 gate_of_lem note j = (image_at note j).member.gate
 
+-- each of the gates can still stand somewhere, where line x is the image of line i
+abbrev pub all_stand : KindMeaning → List Gate → List Image → ℕ → ℕ → Bool
+all_stand k frame images i x = list_all (λ m. some_of m.reached (can_stand k frame m.member.gate i x)) images
+
 -- each of the first few gates can still stand somewhere, where line x is the image of line i
 abbrev pub possible : KindMeaning → List Gate → Note → ℕ → ℕ → ℕ → Bool
-possible k frame note few i x = list_all (λ m. some_of m.reached (can_stand k frame m.member.gate i x)) (take few (contents note.images))
+possible k frame note few i x = all_stand k frame (take few (contents note.images)) i x
 
 -- the same gate, which is left the distances at which it can stand where line x is the image of line i
 pub record Narrows (k : KindMeaning) (frame : List Gate) (i x : ℕ) (above below : Image) : Type 0 where

@@ -51,15 +51,16 @@ has_role_at k role frame count x d = nat_lt d count && bit (lines_in_lem k role 
 abbrev pub same_role : KindMeaning → Gate → ℕ → Gate → ℕ → Bool
 same_role k t i w x = beq (bit w.positive x) (bit t.positive i) && (beq (bit w.negative x) (bit t.negative i) && beq (bit (k.targets w) x) (bit (k.targets t) i))
 
--- the sets have the distances of a frame at which line x has each role
+-- the sets have all distances of a frame, and those at which line x has each role
 pub record HasRoles (k : KindMeaning) (frame : List Gate) (x : ℕ) (sets : RoleSets) : Type 0 where
+  pub all : IsSet sets.all (λ d. nat_lt d (length frame))
   pub positive : IsSet sets.positive (has_role_at k Positive frame (length frame) x)
   pub negative : IsSet sets.negative (has_role_at k Negative frame (length frame) x)
   pub targets : IsSet sets.targets (has_role_at k Target frame (length frame) x)
 
 -- what a read past the sets of all lines gives
 abbrev pub no_roles : RoleSets
-no_roles = record { positive = 0; negative = 0; targets = 0 }
+no_roles = record { all = 0; positive = 0; negative = 0; targets = 0 }
 
 -- what is known of a frame: the blockers of each gate, and the distances at which each line has each role
 pub record Known (k : KindMeaning) (frame : List Gate) (sets : List ℕ) (lines : List RoleSets) : Type 0 where

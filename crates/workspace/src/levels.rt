@@ -1,11 +1,12 @@
 // The numbers that can come next in a key: where its template is not posed yet, in its map of lines, and behind that map.
 ghost use Rattle.std.specs.Prelude.{◌≡◌, ℕ, ◌-◌, ◌*◌, ◌^◌, ◌≤◌, not, ◌&&◌, ltb, List, length, drop, nat_le, nat_lt};
 ghost use Rattle.fixed_list.specs.Lists.{contents};
+ghost use Rattle.gates.specs.declared.gate.Gate.{Gate};
 ghost use Rattle.gates.specs.Lines.{bit};
 ghost use Rattle.search.specs.Keys.{keyed};
-ghost use Rattle.workspace.specs.Notes.{can_stand, image_at, possible, some_of};
+ghost use Rattle.workspace.specs.Notes.{all_stand, can_stand, image_at, possible, some_of};
 ghost use Rattle.workspace.specs.Proposals.{template_of};
-ghost use Rattle.workspace.specs.Starts.{IsSet, movable};
+ghost use Rattle.workspace.specs.Starts.{HasRoles, IsSet, movable};
 ghost use Rattle.workspace.specs.TurnTests.{has_number_lem};
 
 use super::Template;
@@ -13,6 +14,7 @@ use super::line::Line;
 use super::named::BEFORE_MAP;
 use super::notes::{Image, Note};
 use super::numbers::numbers_where;
+use super::role::RoleSets;
 use super::start::Start;
 use super::template::{MOST_GATES, MOST_LINES};
 use gates::{GateKind, WIDTH};
@@ -66,21 +68,21 @@ fn is_mapped(key: &Key, x: &Line) -> bool
         .any(|image| *image == u16::from(x.number))
 }
 
-// Whether the image of the gate can still stand somewhere, where line x is the image of the line.
-fn can_still_stand<K: GateKind>(start: &Start<K>, image: Image, line: u8, x: &Line) -> bool
-    ensures { result ≡ some_of image.reached (can_stand K.means (contents start.now.frame) image.member.gate line x.now.number) }
+// Whether the gate can still stand somewhere, where a line with these roles is the image of the line.
+fn can_still_stand<K: GateKind>(roles: &RoleSets, image: Image, line: u8) -> bool
+    ensures { (frame : List Gate) (x : ℕ) → HasRoles K.means frame x roles.now → result ≡ some_of image.reached (can_stand K.means frame image.member.gate line x) }
 {
-    image.narrowed::<K>(start, line, x).reached != 0
+    image.narrowed::<K>(roles, line).reached != 0
 }
 
-// Whether each of the first few gates can still stand somewhere, where line x is the image of the line.
-fn is_possible<K: GateKind>(start: &Start<K>, note: &Note, few: usize, line: u8, x: &Line) -> bool
-    ensures { result ≡ possible K.means (contents start.now.frame) note.now few line x.now.number }
+// Whether each of the gates can still stand somewhere, where line x is the image of the line.
+fn is_possible<K: GateKind>(start: &Start<K>, images: &[Image], line: u8, x: &Line) -> bool
+    ensures { result ≡ all_stand K.means (contents start.now.frame) images.now line x.now.number }
 {
-    let images = note.images.as_slice();
-    images[..few.min(images.len())]
+    let roles = start.roles_at(x);
+    images
         .iter()
-        .all(|image| can_still_stand::<K>(start, *image, line, x))
+        .all(|image| can_still_stand::<K>(&roles, *image, line))
 }
 
 // The lines that can be the image of the line: those that are none yet and leave each of the first few gates somewhere to stand.
@@ -95,9 +97,11 @@ pub(crate) fn next_lines<K: GateKind>(
     ensures { lines ≤ WIDTH
         → IsSet result (λ x. nat_lt x lines && (not (has_number_lem (drop BEFORE_MAP (keyed key.now)) x) && possible K.means (contents start.now.frame) note.now few line x)) }
 {
+    let images = note.images.as_slice();
+    let images = &images[..few.min(images.len())];
     numbers_where(usize::from(lines), |x| {
         Line::try_from(x).is_ok_and(|x| {
-            !is_mapped(key, &x) && is_possible::<K>(start, note, few, line, &x)
+            !is_mapped(key, &x) && is_possible::<K>(start, images, line, &x)
         })
     })
 }

@@ -1,16 +1,18 @@
 // Making notes: a template is posed, its lines are mapped one by one, places are chosen one by one.
-ghost use Rattle.std.specs.Prelude.{◌≡◌, ◌≤◌, ◌&&◌, ◌||◌, length, map, take, ◌==◌};
+ghost use Rattle.std.specs.Prelude.{◌≡◌, ℕ, ◌≤◌, ◌&&◌, ◌||◌, List, length, map, take, ◌==◌};
 ghost use Rattle.std.specs.List.{AllZip};
 ghost use Rattle.fixed_list.specs.Lists.{contents};
+ghost use Rattle.gates.specs.declared.gate.Gate.{Gate};
 ghost use Rattle.gates.specs.Lines.{bit};
 ghost use Rattle.workspace.specs.Matching.{posed as posed_list};
 ghost use Rattle.workspace.specs.Notes.{Narrows, can_stand, members_in, open_reach};
 ghost use Rattle.workspace.specs.Proposals.{template_of};
-ghost use Rattle.workspace.specs.Starts.{IsSet};
+ghost use Rattle.workspace.specs.Starts.{HasRoles, IsSet};
 
 use super::line::Line;
 use super::notes::{Image, Note};
 use super::posed::Pose;
+use super::role::RoleSets;
 use super::start::Start;
 use super::{Template, posing};
 use fixed_list::FixedList;
@@ -44,13 +46,14 @@ pub(crate) fn posed_note<K: GateKind>(template: &Template, pose: Pose) -> Note
 }
 
 impl Image {
-    // The image with those of its distances at which it can stand, where line x is the image of the line.
-    pub(crate) fn narrowed<K: GateKind>(self, start: &Start<K>, line: u8, x: &Line) -> Image
+    // The image with those of its distances at which it can stand, where a line with these roles is the image of the line.
+    pub(crate) fn narrowed<K: GateKind>(self, roles: &RoleSets, line: u8) -> Image
         ensures keeps { result.member ≡ self.member }
-        ensures reaches { IsSet result.reached (λ d. bit self.reached d && can_stand K.means (contents start.now.frame) self.member.gate line x.now.number d) }
+        ensures reaches { (frame : List Gate) (x : ℕ) → HasRoles K.means frame x roles.now
+            → IsSet result.reached (λ d. bit self.reached d && can_stand K.means frame self.member.gate line x d) }
     {
         Image {
-            reached: self.reached & start.role_set(self.member.gate, line, x),
+            reached: self.reached & roles.matching::<K>(self.member.gate, line),
             ..self
         }
     }
@@ -63,8 +66,9 @@ impl Note {
         ensures reaches { AllZip (Narrows K.means (contents start.now.frame) line x.now.number) (contents self.old.images) (contents self.new.images) }
         ensures chooses { self.new.chosen ≡ self.old.chosen }
     {
+        let roles = start.roles_at(x);
         self.images
-            .turn_each(|image| image.narrowed::<K>(start, line, x));
+            .turn_each(|image| image.narrowed::<K>(&roles, line));
     }
 
     // The note after one more distance was chosen.

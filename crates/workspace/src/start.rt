@@ -1,10 +1,8 @@
 // What is known once for a first place: the frame, who blocks whom in it, and where each line has which role.
 ghost use Rattle.fixed_list.specs.Lists.{contents};
-ghost use Rattle.gates.specs.Lines.{bit};
-ghost use Rattle.std.specs.Bool.{beq};
 ghost use Rattle.std.specs.Prelude.{◌≡◌, ◌&&◌, length, nat_lt, ⊤};
 ghost use Rattle.workspace.specs.Matching.{frame_at};
-ghost use Rattle.workspace.specs.Starts.{IsSet, Known, at_distance, movable, same_role, within};
+ghost use Rattle.workspace.specs.Starts.{HasRoles, IsSet, Known, movable, within};
 
 use super::blockers::all_blockers;
 use super::frame::{Frame, REACH};
@@ -12,8 +10,7 @@ use super::framing::frame_from;
 use super::line::Line;
 use super::numbers::numbers_where;
 use super::role::{LINES, RoleSets, all_roles};
-use gates::{Gate, GateKind, sets};
-use search::candidates;
+use gates::GateKind;
 use std::alloc::AllocError;
 use std::marker::PhantomData;
 use stores::Store;
@@ -60,13 +57,6 @@ pub(crate) fn start_at<S: Store>(store: &S, first: usize) -> Start<S::Kind>
     }
 }
 
-// The numbers that are in the set just if that is wanted.
-fn agreeing(set: u64, wanted: bool) -> u64
-    ensures { IsSet result (λ i. beq (bit set i) wanted) }
-{
-    if wanted { set } else { !set }
-}
-
 // Whether all numbers of the set are in the other.
 fn is_within(set: u64, other: u64) -> bool
     ensures { result ≡ within set other }
@@ -75,15 +65,11 @@ fn is_within(set: u64, other: u64) -> bool
 }
 
 impl<K: GateKind> Start<K> {
-    // The distances at which line x has the roles that the other line has in the gate.
-    pub(crate) fn role_set(&self, gate: Gate, line: u8, x: &Line) -> u64
-        ensures { IsSet result (λ d. nat_lt d (length (contents self.now.frame)) && same_role K.means gate line (at_distance (contents self.now.frame) d) x.now.number) }
+    // The distances at which line x has each role.
+    pub(crate) fn roles_at(&self, x: &Line) -> RoleSets
+        ensures { HasRoles K.means (contents self.now.frame) x.now.number result }
     {
-        let roles = self.roles[usize::from(x.number)];
-        let positive = agreeing(roles.positive, sets::has_line(gate.positive, line));
-        let negative = agreeing(roles.negative, sets::has_line(gate.negative, line));
-        let targets = agreeing(roles.targets, sets::has_line(K::targets(gate), line));
-        candidates::numbers_below(self.frame.len()) & (positive & (negative & targets))
+        self.roles[usize::from(x.number)]
     }
 
     // The distances behind this one all of whose blockers are chosen.

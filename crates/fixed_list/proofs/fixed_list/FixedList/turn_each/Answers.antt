@@ -13,7 +13,7 @@ loop-place-preserved g c =
     let items = c.loop-place.self.items in
     let x = c.index-self-place.result in
     let was : get_or items i x ≡ get_or old.items i x = c.loop-place.invariant.left i x (omega arith) in
-    let inside : i < length old.items = omega (arith, c.len-place-end.ensures.few, c.len-place-end.ensures.wide, c.loop-place-test.true) in
+    let inside : i < length old.items = omega (arith, c.loop-place-test.true) in
     record {
       many = c.loop-place.invariant.many;
       long = length-set items i c.turn.result ∙ c.loop-place.invariant.long;
@@ -25,4 +25,4 @@ pub returns : goal.returns
 returns g c =
     let old = c.args.self.now in
     let new = c.loop-place.self in
-    turned_all _ old.items new.items c.loop-place.place old.count new.count (omega (arith, c.loop-place-test.false, c.loop-place.auto.place-end, c.len-place-end.ensures.is)) c.loop-place.invariant.many c.loop-place.invariant.long c.loop-place.invariant.turned
+    turned_all _ old.items new.items c.loop-place.place old.count new.count (omega (arith, c.loop-place-test.false)) c.loop-place.invariant.long c.loop-place.invariant.many c.loop-place.invariant.turned

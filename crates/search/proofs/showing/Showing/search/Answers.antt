@@ -1,11 +1,11 @@
-use Rattle.std.proofs.Common.{Continue, is_some, Bool, true, false, ◌≡◌, ℕ, ◌+◌, ◌≤◌, List, [], slice_index, sym, refl, ap, ◌∙◌, subst, arith}
+use Rattle.std.proofs.Common.{Continue, is_some, Bool, true, false, ◌≡◌, ℕ, ◌+◌, ◌≤◌, List, [], sym, refl, ap, ◌∙◌, subst, arith}
 use Rattle.std.specs.ControlFlow.{break_value}
-use Rattle.search.specs.Keys.{number_limit, keyed, held, with_number}
+use Rattle.search.specs.Keys.{number_limit, held, with_number}
 use Rattle.search.specs.Listing.{Passes, StartsFrom}
 use Rattle.search.specs.Policy.{Standing, standing, opening}
 use Rattle.search.specs.Prefixes.{stands}
 use Rattle.search.proofs.Choosing.{FoundBy, found_none, held_none, found_first, found_before, searched}
-use Rattle.search.proofs.Numbers.{left_less}
+use Rattle.search.proofs.Numbers.{fits_first, left_less}
 use Rattle.search.proofs.Steps.{Seen, seen_start, seen_skip, seen_more, seen_closed, seen_done, shown_same}
 use Rattle.search.proofs.showing.Showing.search.Goals as goal
 use Rattle.search.proofs.showing.Showing.search.Goals.{then-is_none, else-is_none, After-descend}
@@ -30,16 +30,13 @@ next g c opens sound from closed is =
     let q = c.args.problem.now in
     let before = c.loop-place.invariant.seen opens sound from in
     let named = c.with-key.ensures ∙ ap (λ (k : List ℕ). with_number k first) c.new.ensures in
-    let put = ap keyed c.first.ensures.is ∙ named in
-    let started = c.start-start.ensures sound in
-    let noted = c.note-note.ensures sound [] first named (subst (λ (k : List ℕ). g.Q.Problem.started q (slice_index k 0) c.start-start.result) (sym named) started) (c.blank-blank.ensures sound) in
-    let less = left_less [] _ first put in
-    let shown = shown_same g.P.Policy.rule g.Q.Problem.view g.Q.Problem.test q _ _ _ _ c.first.ensures.of (c.descend.ensures.shows (c.first.ensures.fits first named sound started noted)) in
+    let less = left_less [] _ first named in
+    let shown = shown_same g.P.Policy.rule g.Q.Problem.view g.Q.Problem.test q _ _ _ _ refl (c.descend.ensures.shows (fits_first _ _ _ _ first _ _ _ sound named (c.start-start.ensures sound) (c.blank-blank.ensures sound) c.note-note.ensures)) in
     let told = ap (λ (b : Bool). standing b (g.P.Policy.kept c.descend.new.self.policy.now) (held c.descend.new.self.taken)) (sym is) ∙ shown in
     let By : ℕ → Type 0 = λ n. FoundBy (g.Q.Problem.test q) n (held c.descend.new.self.taken) in (
-      seen_more _ _ _ _ _ [] _ first _ before.0 _ put _ less _ told,
+      seen_more _ _ _ _ _ [] _ first _ before.0 _ named _ less _ told,
       elim c.if-is_none.branch [
-        | then-is_none w ↦ subst By (sym w.lowest-is) (found_first _ _ _ number_limit 23 first _ g.met.P.Policy.takes_first (g.Q.Problem.formed q sound) before.0 (held_none _ w.if-is_none.ensures) _ _ put _ less shown)
+        | then-is_none w ↦ subst By (sym w.lowest-is) (found_first _ _ _ number_limit 23 first _ g.met.P.Policy.takes_first (g.Q.Problem.formed q sound) before.0 (held_none _ w.if-is_none.ensures) _ _ named _ less shown)
         | else-is_none w ↦ subst By (sym w.lowest-is) (found_before _ _ _ _ w.if-is_none.ensures before.1)
       ],
     )

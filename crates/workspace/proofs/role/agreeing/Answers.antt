@@ -1,6 +1,6 @@
 use Rattle.workspace.proofs.DistanceSets.{agree_yes, agree_no}
 use Rattle.std.proofs.Common.{arith}
-use Rattle.workspace.proofs.start.agreeing.Goals as goal
+use Rattle.workspace.proofs.role.agreeing.Goals as goal
 
 pub returns-then-wanted : goal.returns-then-wanted
 returns-then-wanted c = agree_yes c.args.set c.args.wanted c.if-wanted.true
