@@ -1,4 +1,4 @@
--- A key with one number more.
+-- A key with one number more, and notes of it.
 use Rattle.std.proofs.Common.{◌≡◌, ℕ, suc, ◌+◌, ◌-◌, ◌<◌, Bool, true, cond, get_or, List, [], ◌∷◌, ◌++◌, length, sym, ap, ◌∙◌, subst, arith}
 use Rattle.std.proofs.lemmas.List.{get_or_append_left, length-append, length_push}
 use Rattle.std.proofs.lemmas.Bool.{lt-ltb}
